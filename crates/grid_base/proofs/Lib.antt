@@ -1,0 +1,2 @@
+mod InlineOrder
+pub mod Order

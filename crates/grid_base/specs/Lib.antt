@@ -1,0 +1,6 @@
+pub mod Held
+pub mod InlineText
+pub mod Key
+pub mod Padded
+pub mod Portion
+pub mod Text

@@ -1,0 +1,14 @@
+//! The lists that the layers hand to one another.
+
+use crate::entry::Entry;
+use crate::sequence::Sequence;
+use crate::unit_id::UnitId;
+
+/// A list of bytes.
+pub type Bytes = Sequence<u8>;
+
+/// A list of entries.
+pub type Entries = Sequence<Entry>;
+
+/// A list of units of work.
+pub type Units = Sequence<UnitId>;
