@@ -1,0 +1,4 @@
+pub mod Configs
+pub mod Weights
+pub mod Histories
+pub mod Insides
