@@ -1,0 +1,6 @@
+pub mod Count
+pub mod Failures
+pub mod Feed
+pub mod Store
+pub mod Supply
+pub mod Written
