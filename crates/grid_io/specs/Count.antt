@@ -6,8 +6,8 @@ abbrev pub greatest_count : ℕ
 greatest_count = 18446744073709551615
 
 -- one more, or the greatest count where the count stands there already
-abbrev pub raised : ℕ → ℕ
-raised count = min (count + 1) greatest_count
+abbrev pub next_count : ℕ → ℕ
+next_count count = min (count + 1) greatest_count
 
 -- the count rose; one that stands at the greatest count counts as risen
 abbrev pub Rose : ℕ → ℕ → Type 0

@@ -1,6 +1,6 @@
 -- Which calls of a source or a sink in memory fail, and what was counted.
-use Rattle.std.specs.Prelude.{ℕ, List}
-use Rattle.grid_io.specs.Count.{raised}
+use Rattle.std.specs.Prelude.{ℕ, List, Contains}
+use Rattle.grid_io.specs.Count.{next_count}
 
 -- the numbers of the calls that are to fail, how many calls were made, and how many failed
 pub record Counts : Type 0 where
@@ -9,17 +9,21 @@ pub record Counts : Type 0 where
   pub faults : ℕ
 
 -- before the first call
-abbrev pub fresh : List ℕ → Counts
-fresh fails = record { fails = fails; calls = 0; faults = 0 }
+abbrev pub no_calls : List ℕ → Counts
+no_calls fails = record { fails = fails; calls = 0; faults = 0 }
+
+-- the next call is to fail: its number is listed
+abbrev pub FailsNext : Counts → Type 0
+FailsNext counts = Contains counts.fails (next_count counts.calls)
 
 -- after one more fault in the same call
 abbrev pub with_fault : Counts → Counts
-with_fault counts = record counts { faults = raised counts.faults }
+with_fault counts = record counts { faults = next_count counts.faults }
 
 -- after one more call that didn't fail
-abbrev pub passed : Counts → Counts
-passed counts = record counts { calls = raised counts.calls }
+abbrev pub after_pass : Counts → Counts
+after_pass counts = record counts { calls = next_count counts.calls }
 
 -- after one more call that failed
-abbrev pub failed : Counts → Counts
-failed counts = with_fault (passed counts)
+abbrev pub after_fault : Counts → Counts
+after_fault counts = with_fault (after_pass counts)

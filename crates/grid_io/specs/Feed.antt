@@ -7,8 +7,8 @@ pub record Feed : Type 0 where
   pub most : ℕ
 
 -- how many bytes one call moves into this much room
-abbrev pub moved : ℕ → Feed → ℕ
-moved room feed = min (min feed.most room) (length feed.left)
+abbrev pub move_count : ℕ → Feed → ℕ
+move_count room feed = min (min feed.most room) (length feed.left)
 
 -- after a call that moved so many bytes
 abbrev pub after_move : ℕ → Feed → Feed

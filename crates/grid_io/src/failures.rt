@@ -1,8 +1,8 @@
 //! Calls that are to fail, by their numbers.
 
 ghost use Rattle.std.specs.Prelude.{◌≡◌, ◌≤◌, ◌↔◌, Contains, IsTrue, IsErr, OnOk, OnErr};
-ghost use Rattle.grid_io.specs.Count.{raised};
-ghost use Rattle.grid_io.specs.Failures.{Counts, fresh, passed, failed, with_fault};
+ghost use Rattle.grid_io.specs.Failures.{no_calls, FailsNext};
+ghost use Rattle.grid_io.specs.Failures.{after_pass, after_fault, with_fault};
 
 use crate::failed::Failed;
 use grid_base::Sequence;
@@ -31,7 +31,7 @@ impl Model for Failures {
 impl Failures {
     /// No call was made yet.
     pub(crate) fn new(fails: Calls) -> Failures
-        ensures { result ≡ fresh fails.list }
+        ensures { result ≡ no_calls fails.list }
     {
         Failures {
             fails,
@@ -43,9 +43,9 @@ impl Failures {
     /// Counts one more call. It fails, and the fault is counted too, exactly where the call's
     /// number is listed.
     pub(crate) fn next_call(&mut self) -> Result<(), Failed>
-        ensures fails { IsErr result ↔ Contains self.old.fails (raised self.old.calls) }
-        ensures ok { OnOk result (self.new ≡ passed self.old) }
-        ensures err { OnErr result (self.new ≡ failed self.old) }
+        ensures fails { IsErr result ↔ FailsNext self.old }
+        ensures ok { OnOk result (self.new ≡ after_pass self.old) }
+        ensures err { OnErr result (self.new ≡ after_fault self.old) }
         ensures counted { self.old.faults ≤ self.new.faults }
     {
         self.calls = self.calls.saturating_add(1);

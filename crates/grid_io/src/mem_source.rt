@@ -1,12 +1,12 @@
 //! A source in memory that fails at listed calls.
 
 ghost use Rattle.std.specs.Prelude.{◌≡◌, ◌<◌, ◌≤◌, ◌↔◌, [], length, take};
-ghost use Rattle.std.specs.Prelude.{Some, Contains, IfOk, OnErr, IsErr};
+ghost use Rattle.std.specs.Prelude.{Some, IfOk, OnErr, IsErr};
 ghost use Rattle.std.specs.Io.KnownBytes.{Consumes};
-ghost use Rattle.grid_io.specs.Count.{raised, Rose};
-ghost use Rattle.grid_io.specs.Failures.{fresh, passed, failed};
-ghost use Rattle.grid_io.specs.Feed.{Feed, moved, after_move};
-ghost use Rattle.grid_io.specs.Supply.{Supply};
+ghost use Rattle.grid_io.specs.Count.{Rose};
+ghost use Rattle.grid_io.specs.Failures.{FailsNext};
+ghost use Rattle.grid_io.specs.Feed.{move_count};
+ghost use Rattle.grid_io.specs.Supply.{Supply, supply_of, after_read, after_read_fault};
 
 use crate::failed::Failed;
 use crate::failures::{Calls, Failures};
@@ -36,10 +36,7 @@ impl MemSource {
     /// calls `fails`. `most` is at least 1.
     pub fn new(bytes: Bytes, most: usize, fails: Calls) -> MemSource
         requires { 0 < most }
-        ensures made { result ≡ record {
-          feed = record { left = bytes.list; most = most };
-          counts = fresh fails.list;
-        } }
+        ensures made { result ≡ supply_of bytes.list most fails.list }
         ensures left { ⟦<MemSource as Source>⟧.left result ≡ Some bytes.list }
         ensures faults { ⟦<MemSource as Source>⟧.faults result ≡ 0 }
     {
@@ -59,16 +56,14 @@ impl Source for MemSource {
     /// many bytes as it may.
     fn read(&mut self, buf: &mut [u8]) -> Result<usize, Failed>
         requires { 0 < length buf.old }
-        ensures fails { IsErr result ↔ Contains self.old.counts.fails (raised self.old.counts.calls) }
-        ensures count { IfOk result (λ n. n ≡ moved (length buf.old) self.old.feed) }
-        ensures after { IfOk result (λ n. self.new ≡ record {
-          feed = after_move n self.old.feed;
-          counts = passed self.old.counts;
-        }) }
-        ensures stands { OnErr result (self.new ≡ record self.old { counts = failed self.old.counts }) }
+        ensures fails { IsErr result ↔ FailsNext self.old.counts }
+        ensures count { IfOk result (λ n. n ≡ move_count (length buf.old) self.old.feed) }
+        ensures after { IfOk result (λ n. self.new ≡ after_read n self.old) }
+        ensures stands { OnErr result (self.new ≡ after_read_fault self.old) }
 
         ensures bound { IfOk result (λ n. n ≤ length buf.new) }
-        ensures taken { IfOk result (λ n. Consumes (Some self.old.feed.left) (Some self.new.feed.left) (take n buf.new)) }
+        ensures taken { IfOk result (λ n.
+            Consumes (Some self.old.feed.left) (Some self.new.feed.left) (take n buf.new)) }
         ensures end { IfOk result (λ n. (n ≡ 0) ↔ (self.old.feed.left ≡ [])) }
         ensures err { OnErr result (self.new.feed.left ≡ self.old.feed.left) }
         ensures counted { self.old.counts.faults ≤ self.new.counts.faults }

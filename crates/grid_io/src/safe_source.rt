@@ -4,7 +4,7 @@ ghost use Rattle.std.specs.Prelude.{◌≡◌, ◌<◌, ◌≤◌, ◌↔◌, []
 ghost use Rattle.std.specs.Prelude.{Some, IfOk, OnErr, IfSome, IsOk};
 ghost use Rattle.std.specs.Io.KnownBytes.{Consumes};
 ghost use Rattle.grid_io.specs.Count.{Rose};
-ghost use Rattle.grid_io.specs.Feed.{Feed, moved, after_move};
+ghost use Rattle.grid_io.specs.Feed.{Feed, move_count, after_move};
 
 use crate::failed::Failed;
 use crate::source::Source;
@@ -46,7 +46,7 @@ impl SafeSource {
     /// Moves the next bytes into the front of `buf`, and answers how many: as many as `most`, the
     /// room in `buf` and the bytes that are left allow.
     pub(crate) fn move_into(&mut self, buf: &mut [u8]) -> usize
-        ensures count { result ≡ moved (length buf.old) self.old }
+        ensures count { result ≡ move_count (length buf.old) self.old }
         ensures bytes { take result buf.new ≡ take result self.old.left }
         ensures after { self.new ≡ after_move result self.old }
         ensures end { 0 < length buf.old → ((result ≡ 0) ↔ (self.old.left ≡ [])) }
@@ -68,10 +68,11 @@ impl Source for SafeSource {
     fn read(&mut self, buf: &mut [u8]) -> Result<usize, Failed>
         requires { 0 < length buf.old }
         ensures never_fails { IsOk result }
-        ensures count { IfOk result (λ n. n ≡ moved (length buf.old) self.old) }
+        ensures count { IfOk result (λ n. n ≡ move_count (length buf.old) self.old) }
         ensures after { IfOk result (λ n. self.new ≡ after_move n self.old) }
         ensures bound { IfOk result (λ n. n ≤ length buf.new) }
-        ensures taken { IfOk result (λ n. Consumes (Some self.old.left) (Some self.new.left) (take n buf.new)) }
+        ensures taken { IfOk result (λ n.
+            Consumes (Some self.old.left) (Some self.new.left) (take n buf.new)) }
         ensures end { IfOk result (λ n. (n ≡ 0) ↔ (self.old.left ≡ [])) }
     {
         Ok(self.move_into(buf))

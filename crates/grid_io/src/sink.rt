@@ -21,7 +21,8 @@ pub trait Sink {
         requires { 0 < length piece.now }
         ensures some { IfOk result (λ n. 0 < n) }
         ensures bound { IfOk result (λ n. n ≤ length piece.now) }
-        ensures added { IfOk result (λ n. Appends (told self.old) (told self.new) (take n piece.now)) }
+        ensures added { IfOk result (λ n.
+            Appends (told self.old) (told self.new) (take n piece.now)) }
         ensures err { OnErr result (told self.new ≡ told self.old) }
         ensures counted { faults self.old ≤ faults self.new }
         ensures failed { OnErr result (Rose (faults self.old) (faults self.new)) };

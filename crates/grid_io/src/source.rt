@@ -21,7 +21,8 @@ pub trait Source {
     fn read(&mut self, buf: &mut [u8]) -> Result<usize, Failed>
         requires { 0 < length buf.old }
         ensures bound { IfOk result (λ n. n ≤ length buf.new) }
-        ensures taken { IfOk result (λ n. Consumes (left self.old) (left self.new) (take n buf.new)) }
+        ensures taken { IfOk result (λ n.
+            Consumes (left self.old) (left self.new) (take n buf.new)) }
         ensures end { IfOk result (λ n. IfSome (left self.old) (λ all. (n ≡ 0) ↔ (all ≡ []))) }
         ensures err { OnErr result (left self.new ≡ left self.old) }
         ensures counted { faults self.old ≤ faults self.new }

@@ -1,6 +1,6 @@
 //! Sources and sinks of each kind, read and written to their ends and to their faults.
 
-ghost use Rattle.std.specs.Prelude.{◌≡◌, IfOk, IfSome, IsTrue};
+ghost use Rattle.std.specs.Prelude.{◌≡◌, IfOk, IfSome, IsErrOf, IsOk, IsTrue};
 ghost use Rattle.std.specs.Io.KnownBytes.{Appends};
 
 use crate::{
@@ -54,6 +54,20 @@ fn passed_on(alloc: Global, bytes: Bytes) -> Result<Option<Bytes>, NoMemory>
     Ok(Some(sink.written().copy(alloc)?))
 }
 
+// Reads a safe source, which is never the cause of a fault.
+fn read_safely(alloc: Global, source: &mut SafeSource, limit: usize) -> Result<Bytes, ReadAllFault>
+    ensures never_fails { ¬ IsErrOf result ReadAllFault.ReadFault }
+{
+    read_all(alloc, source, limit)
+}
+
+// Writes to a safe sink, which never fails.
+fn write_safely(sink: &mut SafeSink, bytes: &[u8]) -> Result<(), WriteFault>
+    ensures never_fails { IsOk result }
+{
+    write_all(sink, bytes)
+}
+
 #[test]
 fn reads_to_the_end_or_a_fault(rt: HostRuntime) -> Result<(), Fail> {
     let alloc = rt.alloc();
@@ -88,7 +102,7 @@ fn reads_to_the_end_or_a_fault(rt: HostRuntime) -> Result<(), Fail> {
         }
     }
     let mut safe = SafeSource::new(sample(alloc, 9)?, 4);
-    let bytes = read_all(alloc, &mut safe, 9)
+    let bytes = read_safely(alloc, &mut safe, 9)
         .ok()
         .ok_or("a safe source failed")?;
     assert_eq!(rt; bytes.as_slice(), sample(alloc, 9)?.as_slice());
@@ -120,7 +134,10 @@ fn writes_whole_or_a_front(rt: HostRuntime) -> Result<(), Fail> {
         assert_eq!(rt; sink.written().as_slice(), sample(alloc, front)?.as_slice());
     }
     let mut safe = SafeSink::new(4);
-    assert_eq!(rt; write_all(&mut safe, sample(alloc, 9)?.as_slice()), Ok(()));
+    assert_eq!(rt;
+        write_safely(&mut safe, sample(alloc, 9)?.as_slice()),
+        Ok(())
+    );
     let passed = passed_on(alloc, sample(alloc, 100)?)?.ok_or("not passed on")?;
     assert_eq!(rt; passed.as_slice(), sample(alloc, 100)?.as_slice());
     Ok(())

@@ -19,12 +19,13 @@ pub fn write_all<K: Sink>(sink: &mut K, bytes: &[u8]) -> Result<(), WriteFault>
     ensures counted { K.faults sink.old ≤ K.faults sink.new }
 
     // Both answers in one, for a caller that doesn't look at the answer.
-    ensures wrote { Wrote (K.told sink.old) (K.told sink.new) (K.faults sink.old) (K.faults sink.new)
-        bytes.now }
+    ensures wrote { Wrote (K.told sink.old) (K.told sink.new)
+        (K.faults sink.old) (K.faults sink.new) bytes.now }
 {
     let mut written = 0;
     'pieces: while written < bytes.len() {
-        written += sink.write(&bytes[written..])?;
+        let count = sink.write(&bytes[written..])?;
+        written += count;
     }
     Ok(())
 }
