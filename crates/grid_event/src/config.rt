@@ -2,9 +2,9 @@
 
 ghost use Rattle.std.specs.Prelude.{◌≡◌};
 
-use crate::partition::Partition;
 use crate::value_kind::ValueKind;
 use grid_base::limits::{MOST_CHUNK, MOST_NODES, MOST_OWNERS, MOST_SEGMENTS};
+use segment_hash::Partition;
 
 /// The settings of a cluster: the first nodes, which are numbered from 0; the segments; how many
 /// owners a segment has at most; how keys are divided among the segments; the kind of the values;

@@ -1,0 +1,103 @@
+-- What the definitions say of an answer, where one node has the one segment.
+use Rattle.std.proofs.Common.{◌≡◌, ℕ, zero, suc, get_or, ◌+◌, ◌≤◌, ◌<◌, Bool, true, false, cond, not, ◌&&◌, ◌==◌, List, [], ◌∷◌, ◌++◌, length, drop, filter, Option, Some, None, is_none, refl, sym, ap, subst, ◌∙◌, arith, length-append, if◌then◌else◌, append-nil}
+use Rattle.std.proofs.Math.Seq.{drop-cons}
+use Rattle.std.specs.List.{flat_map}
+use Rattle.std.specs.FinMap as map_of
+use Rattle.grid_base.specs.declared.entry.Entry.{Entry}
+use Rattle.grid_event.specs.declared.event.AnswerEvent.{AnswerEvent}
+use Rattle.grid_event.specs.declared.outcome.Answer.{Answer}
+use Rattle.grid_event.specs.declared.outcome.Answer.TheVariants.{Count}
+use Rattle.grid_event.specs.declared.outcome.Outcome.TheVariants.{Value}
+use Rattle.grid_event.specs.declared.pipeline.End.{End}
+use Rattle.grid_event.specs.declared.pipeline.End.TheVariants as ends
+use Rattle.cluster_core.specs.Evidence.{counts_for, read_for}
+use Rattle.cluster_core.specs.Served.{IsOne}
+use Rattle.cluster_core.proofs.OneNode.{segments_of-one}
+use Rattle.cluster_core.proofs.RoundLaws.{incomplete-one, left_of}
+use Rattle.cluster_model.specs.State.{Call, State, Unit, call_of}
+use Rattle.cluster_model.specs.Answers.{answered, can_answer, can_answer_call, end_of, evidence, is_that, outcome_of, pipe, same_outcome}
+use Rattle.cluster_model.specs.Calls.{can_go_on, incomplete, is_complete}
+use Rattle.cluster_model.specs.Units.{read_by}
+
+-- the entries of the ended units, one after another, are as many as they have read
+length-evidence : (call : ℕ) (units : List Unit) → length (flat_map (λ (unit : Unit). unit.entries) (filter (counts_for call) units)) ≡ read_for call units
+length-evidence call [] = refl
+length-evidence call (unit ∷ units) =
+    elim (counts_for call unit) as (λ counts.
+    length (flat_map (λ (u : Unit). u.entries) (cond counts (unit ∷ filter (counts_for call) units) (filter (counts_for call) units)))
+    ≡ (if counts then length unit.entries else 0) + read_for call units) [
+      | true ↦ length-append unit.entries _ ∙ ap (λ n. length unit.entries + n) (length-evidence call units)
+      | false ↦ length-evidence call units ∙ omega arith
+    ]
+
+-- the evidence of a call is that of segment 0
+pub evidence-one : (st : State) → IsOne st.config → (number : ℕ) → length (evidence st number) ≡ read_for number st.units
+evidence-one st one number = rw (segments_of-one st one) (simp append-nil (length-evidence number st.units))
+
+-- a call's ended units have not read more than all units
+pub read_for-le : (call : ℕ) (units : List Unit) → read_for call units ≤ read_by units
+read_for-le call [] = omega arith
+read_for-le call (unit ∷ units) =
+    let rest = read_for-le call units in
+    elim (counts_for call unit) as (λ counts. ((if counts then length unit.entries else 0) + read_for call units) ≤ length unit.entries + read_by units) [
+      | true ↦ omega (arith, rest)
+      | false ↦ omega (arith, rest)
+    ]
+
+-- a unit that counts is in what is left to count
+pub read_for-here : (call : ℕ) (units : List Unit) (place : ℕ) (unit : Unit) → place < length units → unit ≡ get_or units place unit →
+    true ≡ counts_for call unit → length unit.entries ≤ read_for call (drop place units)
+read_for-here call [] place unit within at counts = absurd (omega arith)
+read_for-here call (first ∷ units) zero unit within at counts =
+    rw (← at, ← counts) (omega arith)
+read_for-here call (first ∷ units) (suc place) unit within at counts = read_for-here call units place unit (omega arith) at counts
+
+-- the pipeline of this language counts
+end_of-count : (end : End) (entries : List Entry) → end_of end entries ≡ Count (length entries)
+end_of-count ends.Count entries = refl
+
+-- a call has its outcome once segment 0 is complete
+pub outcome_of-one : (st : State) → IsOne st.config → (number : ℕ) (call : Call) →
+    outcome_of st number call ≡ (if is_complete st number 0 then Some (Value (Count (length (evidence st number)))) else None)
+outcome_of-one st one number call =
+    rw (incomplete-one st one number, end_of-count call.request.pipeline.end (evidence st number))
+    (elim (is_complete st number 0) as (λ complete.
+    (if length (left_of complete) == 0 then Some (Value (Count (length (evidence st number)))) else None)
+    ≡ (if complete then Some (Value (Count (length (evidence st number)))) else None)) [
+      | true ↦ refl
+      | false ↦ refl
+    ])
+
+answer_of : (st : State) → IsOne st.config → (a : AnswerEvent) (found : Option Call) →
+    (can_go_on st found && can_answer_call st a found)
+    ≡ (can_go_on st found && (is_complete st a.call 0 && same_outcome a.outcome (Value (Count (length (evidence st a.call))))))
+answer_of st one a None = refl
+answer_of st one a (Some call) =
+    ap (λ b. can_go_on st (Some call) && b)
+    (ap (is_that a.outcome) (outcome_of-one st one a.call call)
+    ∙ elim (is_complete st a.call 0) as (λ complete.
+    is_that a.outcome (if complete then Some (Value (Count (length (evidence st a.call)))) else None)
+    ≡ (complete && same_outcome a.outcome (Value (Count (length (evidence st a.call)))))) [
+      | true ↦ refl
+      | false ↦ refl
+    ])
+
+-- so may a call be answered that goes on
+pub can_answer-one : (st : State) → IsOne st.config → (a : AnswerEvent) →
+    can_answer st a
+    ≡ (can_go_on st (call_of st a.call) && (is_complete st a.call 0 && same_outcome a.outcome (Value (Count (length (evidence st a.call))))))
+unfolding can_answer
+can_answer-one st one a = answer_of st one a (call_of st a.call)
+
+-- no answer of a call that is not there
+pub no_answer : (st : State) (a : AnswerEvent) → None ≡ call_of st a.call → can_answer st a ≡ true → ⊥
+unfolding can_answer
+no_answer st a absent may =
+    let e = subst (λ (found : Option Call). (can_go_on st found && can_answer_call st a found) ≡ true) (sym absent) may in
+    cc
+
+-- a call that is there gets its outcome
+pub answered-there : (st : State) (a : AnswerEvent) (call : Call) → Some call ≡ call_of st a.call →
+    answered st a ≡ record st { calls = map_of.insert st.calls a.call (record call { outcome = Some a.outcome }) }
+unfolding answered
+answered-there st a call there = rw (← there) refl

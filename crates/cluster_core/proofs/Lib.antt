@@ -1,0 +1,11 @@
+pub mod Trees
+pub mod CellTrees
+pub mod OneNode
+pub mod Seen
+pub mod RoundLaws
+pub mod ReadLaws
+pub mod UnitLaws
+pub mod UnitWrites
+pub mod NextLaws
+pub mod AnswerLaws
+pub mod ChoiceLaws
