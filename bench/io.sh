@@ -3,10 +3,13 @@
 # the time and the peak memory of each run.
 set -e
 cd "$(dirname "$0")/../crates/grid_copy"
-rt run <stdin >/dev/null
 folder=$(mktemp -d)
 trap 'rm -rf "$folder"' EXIT
-for megabytes in 4 64; do
+if ! rt run <stdin >"$folder/log" 2>&1; then
+    cat "$folder/log"
+    exit 1
+fi
+for megabytes in 16 256; do
     head -c $((megabytes * 1024 * 1024)) /dev/zero | tr '\0' a >"$folder/in"
     /usr/bin/time -f "$megabytes MB: %e s, %M KB at most" out/grid_copy <"$folder/in" >"$folder/out"
     cmp "$folder/in" "$folder/out"
