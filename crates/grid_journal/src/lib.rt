@@ -7,3 +7,6 @@ mod words;
 
 pub use events::print_event;
 pub use reports::report;
+
+#[cfg(test)]
+mod tests;
