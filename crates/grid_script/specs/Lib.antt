@@ -1,0 +1,5 @@
+pub mod Readers
+pub mod Orders
+pub mod Scripts
+pub mod Refusals
+pub mod Tables
