@@ -8,8 +8,8 @@ use Rattle.grid_event.specs.Configs.{is_up_to}
 use Rattle.grid_event.specs.declared.event.Ask.{Ask}
 use Rattle.grid_event.specs.declared.event.InvokeEvent.{InvokeEvent}
 use Rattle.grid_event.specs.declared.event.RoundEvent.{RoundEvent}
-use Rattle.grid_event.specs.declared.guarantee.Guarantee.{Guarantee}
-use Rattle.grid_event.specs.declared.guarantee.Guarantee.TheVariants.{Exact, AtLeast, AtMost}
+use Rattle.delivery_mode.specs.declared.guarantee.Guarantee.{Guarantee}
+use Rattle.delivery_mode.specs.declared.guarantee.Guarantee.TheVariants.{Exact, AtLeast, AtMost}
 use Rattle.grid_event.specs.declared.request.Request.{Request}
 use Rattle.cluster_model.specs.State.{Asked, Call, State, Unit, call_of, is_ended, is_open}
 use Rattle.cluster_model.specs.Owners.{first_reader, installed_id, is_live, segments_of}

@@ -5,7 +5,6 @@
 mod command;
 mod config;
 mod event;
-mod guarantee;
 mod idle;
 mod journal;
 mod outcome;
@@ -16,8 +15,8 @@ mod value_kind;
 
 pub use command::Command;
 pub use config::Config;
+pub use delivery_mode::Guarantee;
 pub use event::{AnswerEvent, Ask, Event, InvokeEvent, RoundEvent, ScanEvent, WriteEvent};
-pub use guarantee::Guarantee;
 pub use idle::Idle;
 pub use journal::Journal;
 pub use outcome::{Answer, Outcome};

@@ -1,7 +1,7 @@
 //! What a call asks for.
 
-use crate::guarantee::Guarantee;
 use crate::pipeline::Pipeline;
+use delivery_mode::Guarantee;
 
 /// What a call asks for: its guarantee, how many rounds it may make (1 to 64), how many entries it
 /// reads at a time (1 to 1,000), and what it does with them.

@@ -8,8 +8,8 @@ use Rattle.grid_event.specs.declared.event.InvokeEvent.{InvokeEvent}
 use Rattle.grid_event.specs.declared.event.RoundEvent.{RoundEvent}
 use Rattle.grid_event.specs.declared.event.ScanEvent.{ScanEvent}
 use Rattle.grid_event.specs.declared.event.WriteEvent.{WriteEvent}
-use Rattle.grid_event.specs.declared.guarantee.Guarantee.{Guarantee}
-use Rattle.grid_event.specs.declared.guarantee.Guarantee.TheVariants.{Exact, AtLeast, AtMost}
+use Rattle.delivery_mode.specs.declared.guarantee.Guarantee.{Guarantee}
+use Rattle.delivery_mode.specs.declared.guarantee.Guarantee.TheVariants.{Exact, AtLeast, AtMost}
 use Rattle.grid_event.specs.declared.outcome.Answer as answers
 use Rattle.grid_event.specs.declared.outcome.Answer.TheVariants.{Count}
 use Rattle.grid_event.specs.declared.outcome.Outcome.{Outcome}

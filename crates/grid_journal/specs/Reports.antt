@@ -4,8 +4,8 @@ use Rattle.std.specs.List.{join_with_byte, range_with_len}
 use Rattle.grid_event.specs.declared.config.Config.{Config}
 use Rattle.grid_event.specs.declared.event.Event.{Event}
 use Rattle.grid_event.specs.declared.idle.Idle.{Idle}
-use Rattle.grid_event.specs.declared.partition.Partition.{Partition}
-use Rattle.grid_event.specs.declared.partition.Partition.TheVariants.{Plain, Grouped}
+use Rattle.segment_hash.specs.declared.partition.Partition.{Partition}
+use Rattle.segment_hash.specs.declared.partition.Partition.TheVariants.{Plain, Grouped}
 use Rattle.grid_event.specs.declared.value_kind.ValueKind.{ValueKind}
 use Rattle.grid_event.specs.declared.value_kind.ValueKind.TheVariants.{Int, Text, Flag}
 use Rattle.grid_event.specs.Histories.{History}

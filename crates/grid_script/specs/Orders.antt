@@ -7,7 +7,7 @@ use Rattle.grid_base.specs.declared.datum.Datum.{Datum}
 use Rattle.grid_base.specs.declared.datum.Datum.TheVariants.{Int}
 use Rattle.grid_base.specs.Key.{is_key}
 use Rattle.grid_event.specs.declared.command.Command.TheVariants.{Put, Call}
-use Rattle.grid_event.specs.declared.guarantee.Guarantee.TheVariants.{Exact}
+use Rattle.delivery_mode.specs.declared.guarantee.Guarantee.TheVariants.{Exact}
 use Rattle.grid_event.specs.declared.request.Request.{Request}
 use Rattle.grid_script.specs.declared.order.Order.{Order}
 use Rattle.grid_script.specs.declared.order.Order.TheVariants.{One, Finish}

@@ -2,7 +2,7 @@
 use Rattle.std.specs.Prelude.{◌≡◌, ℕ, ◌+◌, Bool, true, false, ◌||◌, ◌==◌, List, [], ◌∷◌, ◌++◌, length, codes, decimal}
 use Rattle.grid_event.specs.declared.command.Command.TheVariants.{Call}
 use Rattle.grid_event.specs.declared.config.Config.{Config}
-use Rattle.grid_event.specs.declared.partition.Partition.TheVariants.{Plain}
+use Rattle.segment_hash.specs.declared.partition.Partition.TheVariants.{Plain}
 use Rattle.grid_event.specs.declared.value_kind.ValueKind.TheVariants.{Int}
 use Rattle.grid_event.specs.Configs.{is_config}
 use Rattle.grid_script.specs.declared.order.Order.{Order}
