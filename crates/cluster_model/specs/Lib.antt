@@ -9,3 +9,4 @@ pub mod Units
 pub mod Answers
 pub mod Step
 pub mod Commands
+pub mod Laws

@@ -1,0 +1,13 @@
+-- The line's first event and those that follow it, or its note.
+use Rattle.std.proofs.Common.{◌≡◌, true, false, ap, sym, subst, ◌∙◌}
+use Rattle.cluster_model.specs.Commands.{chosen}
+use Rattle.step_run.specs.Outcomes.{Leaves, running}
+use Rattle.step_run.specs.StepRuns.{ENOUGH, Progress, noted, repeated}
+use Rattle.step_run.proofs.Fronts.{repeated-grows}
+use Rattle.step_run.proofs.Resuming.{by_event-fault, by_event-idle, by_event-rest}
+use Rattle.step_run.proofs.lines.do_all.Goals as goal
+
+pub returns-in-Err-clause-leaves : goal.returns-in-Err-clause-leaves
+returns-in-Err-clause-leaves c =
+    by_event-fault c.args.line (repeated ENOUGH c.args.line c.args.command.now) (noted c.args.line) (repeated-grows ENOUGH c.args.line c.args.command.now)
+    (chosen c.args.core.now c.args.command.now) (running c.args.core.now c.args.journal.now.history) c.in-Err.fault c.do_first.new.core c.do_first.new.journal.history c.in-Err.ensures.leaves

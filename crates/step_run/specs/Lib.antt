@@ -1,0 +1,3 @@
+pub mod StepRuns
+pub mod Outcomes
+pub mod Laws

@@ -1,0 +1,34 @@
+//! Stepped runs.
+
+ghost use Rattle.std.specs.Prelude.{◌≡◌, true};
+ghost use Rattle.grid_event.specs.Histories.{blank};
+ghost use Rattle.cluster_model.specs.Step.{is_run};
+ghost use Rattle.step_run.specs.StepRuns.{run_of};
+ghost use Rattle.step_run.specs.Outcomes.{LeavesRun};
+
+use crate::lines::{do_lines, finish_all};
+use crate::run_fault::RunFault;
+use cluster_core::Core;
+use grid_event::Journal;
+use grid_script::StepScript;
+use std::alloc::Global;
+
+/// Does every line of the script in turn, and then finishes each call. With Ok the journal is that
+/// of the script's stepped run. Full comes exactly where that run stops for a full journal, at its
+/// line, and the journal then holds it; after want of memory the journal is empty or holds a front of
+/// that run. Whatever comes, the journal is a run of the cluster.
+pub fn run_steps(alloc: Global, script: &StepScript, journal: &mut Journal) -> Result<(), RunFault>
+    requires { journal.old.history ≡ blank }
+    ensures leaves { LeavesRun result journal.new.history (run_of script.now) }
+    ensures run { is_run journal.new.history ≡ true }
+{
+    let config = script.config;
+    let Ok(mut core) = Core::new(alloc, &config) else {
+        return Err(RunFault::NoMemory);
+    };
+    journal.start(config);
+    match do_lines(alloc, &mut core, journal, script.lines.as_slice()) {
+        Ok(()) => finish_all(alloc, &mut core, journal),
+        Err(fault) => Err(fault),
+    }
+}
