@@ -21,3 +21,6 @@ pub use script_fault::ScriptFault;
 pub use scripts::read_script;
 pub use step_line::StepLine;
 pub use step_script::StepScript;
+
+#[cfg(test)]
+mod tests;

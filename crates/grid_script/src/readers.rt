@@ -53,7 +53,7 @@ pub fn read_number(bytes: &[u8]) -> Option<u32>
 fn spells_number(bytes: &[u8], number: u32) -> bool
     ensures { IsTrue result ↔ (decimal number ≡ bytes.now) }
 {
-    Buffer::new().format(number).as_bytes() == bytes
+    bytes == Buffer::new().format(number).as_bytes()
 }
 
 /// The number from 1 to a greatest one that the bytes spell.
