@@ -115,6 +115,15 @@ impl Listeners {
         Some(units)
     }
 
+    /// Equal listeners. The only failure is that memory runs out.
+    pub fn copy(&self, _alloc: Global) -> Result<Listeners, NoMemory>
+        ensures { IfOk result (λ copy. copy ≡ self.now) }
+    {
+        let units = self.units.clone()?;
+        let index = self.index.clone()?;
+        Ok(Listeners { units, index })
+    }
+
     /// The set of the units that are registered at the node on one of the segments.
     fn found(
         &self,

@@ -17,7 +17,9 @@ fn the_units_of_lost_segments_are_listed(rt: HostRuntime) -> Result<(), Fail> {
     assert_eq!(rt; lost.as_slice(), [UnitId::new(2)].as_slice());
     let elsewhere = listeners.lost(rt.alloc(), other, &segments)?;
     assert!(rt; elsewhere.is_empty());
+    let copied = listeners.copy(rt.alloc())?;
     listeners.end(UnitId::new(2));
+    assert!(rt; copied.at(node, second).is_some());
     assert!(rt; listeners.at(node, second).is_none());
     Ok(())
 }

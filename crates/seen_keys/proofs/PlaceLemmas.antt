@@ -1,9 +1,10 @@
 -- What the places say of the keys that have passed.
-use Rattle.std.proofs.Common.{◌≡◌, ℕ, zero, suc, ◌+◌, ◌<◌, ◌≤◌, Bool, true, false, not, ◌&&◌, ◌||◌, List, [], ◌∷◌, ◌++◌, length, get_or, set, refl, sym, ◌∙◌, ap, arith, inl, inr, Some, None, Option, unwrap_or, cond, Result, Ok, Err, OnErr}
+use Rattle.std.proofs.Common.{◌≡◌, ℕ, zero, suc, ◌+◌, ◌<◌, ◌≤◌, Bool, true, false, not, ◌&&◌, ◌||◌, List, [], ◌∷◌, ◌++◌, length, get_or, set, take, refl, sym, subst, ◌∙◌, ap, arith, inl, inr, Some, None, Option, unwrap_or, cond, Result, Ok, Err, OnErr}
 use Rattle.std.proofs.lemmas.Bool.{ne_eqb, eq-eqb, cases_eq}
-use Rattle.std.proofs.lemmas.List.{get_or-set_same, get_or-set_other, get_or_past}
+use Rattle.std.proofs.lemmas.List.{get_or-set_same, get_or-set_other, get_or_past, take_more, take_all}
+use Rattle.std.proofs.lemmas.List.Elements.{AllZip-push}
 use Rattle.std.specs.Prelude.{◌==◌}
-use Rattle.std.specs.List.{list_any}
+use Rattle.std.specs.List.{list_any, AllZip}
 use Rattle.std.specs.Cmp.{Equal-is}
 use Rattle.std.specs.Cmp.Lexicographic.{nat_list_eq_equiv}
 use Rattle.std.specs.FinSet as sets
@@ -240,3 +241,34 @@ with_key-known passed n j h =
 pub OnErr-all : {T E P : Type 0} (r : Result T E) → P → OnErr r P
 OnErr-all (Ok x) p = tt
 OnErr-all (Err e) p = p
+
+-- a copied place has the keys of the place
+abbrev pub HasSameKeys : {S : Type 0} → Option (IndexSet (List ℕ) S) → Option (IndexSet (List ℕ) S) → Type 0
+HasSameKeys place copied = (k : List ℕ) → place_has copied k ≡ place_has place k
+
+-- places that are copied one by one say the same
+pub passed_from-copied : {S : Type 0} (places copied : List (Option (IndexSet (List ℕ) S))) → AllZip HasSameKeys places copied → passed_from 0 copied ≡ passed_from 0 places
+passed_from-copied {S} places copied all =
+    sets.same_set delivery_total delivery_exact _ _
+    (λ d. has_passed-passed_from copied d.0 d.1 ∙ at_each d.0 d.1 places copied all ∙ sym (has_passed-passed_from places d.0 d.1))
+  where
+    at_each : (m : ℕ) (k : List ℕ) (ps qs : List (Option (IndexSet (List ℕ) S))) → AllZip HasSameKeys ps qs → place_has (get_or qs m None) k ≡ place_has (get_or ps m None) k
+    at_each m k [] [] a = refl
+    at_each m k [] (q ∷ qs) a = absurd a
+    at_each m k (p ∷ ps) [] a = absurd a
+    at_each zero k (p ∷ ps) (q ∷ qs) a = a.0 k
+    at_each (suc m) k (p ∷ ps) (q ∷ qs) a = at_each m k ps qs a.1
+
+-- one more place is copied
+pub copied_more : {S : Type 0} (places before after : List (Option (IndexSet (List ℕ) S))) (i : ℕ) (place copied : Option (IndexSet (List ℕ) S)) → i < length places →
+    place ≡ get_or places i place → AllZip HasSameKeys (take i places) before → HasSameKeys place copied → after ≡ before ++ copied ∷ [] → AllZip HasSameKeys (take (i + 1) places) after
+copied_more {S} places before after i place copied inside at so_far same grown =
+    let pushed : AllZip HasSameKeys (take i places ++ place ∷ []) (before ++ copied ∷ []) = AllZip-push HasSameKeys (take i places) before place copied so_far same in
+    let front : take (i + 1) places ≡ take i places ++ place ∷ [] = take_more places i place inside ∙ ap (λ p. take i places ++ p ∷ []) (sym at) in
+    subst (λ xs. AllZip HasSameKeys xs after) (sym front) (subst (λ ys. AllZip HasSameKeys (take i places ++ place ∷ []) ys) (sym grown) pushed)
+
+-- where all places are copied, the copy says the same
+pub passed_from-all_copied : {S : Type 0} (places all copied : List (Option (IndexSet (List ℕ) S))) (i : ℕ) → all ≡ places → length all ≤ i → AllZip HasSameKeys (take i all) copied →
+    passed_from 0 copied ≡ passed_from 0 places
+passed_from-all_copied {S} places all copied i same past so_far =
+    passed_from-copied all copied (subst (λ xs. AllZip HasSameKeys xs copied) (take_all i all past) so_far) ∙ ap (passed_from 0) same

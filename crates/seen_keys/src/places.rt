@@ -4,7 +4,7 @@ ghost use Rattle.std.specs.Prelude.{◌≡◌, ℕ, ◌≤◌, ◌||◌, List, I
 ghost use Rattle.std.specs.List.{list_any};
 ghost use Rattle.grid_base.specs.Datum.{same_bytes};
 ghost use Rattle.seen_keys.specs.Passed.{has_passed, with_key, all_passed, without_segment};
-ghost use Rattle.seen_keys.specs.Places.{passed_from, has_key};
+ghost use Rattle.seen_keys.specs.Places.{passed_from, has_key, place_has};
 
 use grid_base::{Entry, Key, NoMemory, SegmentId};
 use indexmap::IndexSet;
@@ -72,6 +72,27 @@ pub fn forget(places: &mut Places, segment: SegmentId)
     let place = usize::from(segment.number());
     if place < places.len() {
         places[place] = None;
+    }
+}
+
+/// The same keys in memory of their own. The only failure is that memory runs out.
+pub fn copy_places(alloc: Global, places: &Places) -> Result<Places, NoMemory>
+    ensures { IfOk result (λ copy. passed_from 0 copy.items ≡ passed_from 0 places.now.items) }
+{
+    let mut copied = Vec::with_capacity(alloc, places.len())?;
+    for place in places {
+        copied.push(copy_place(place)?)?;
+    }
+    Ok(copied)
+}
+
+/// The same keys of one place in memory of their own.
+fn copy_place(place: &Option<IndexSet<Key>>) -> Result<Option<IndexSet<Key>>, NoMemory>
+    ensures { IfOk result (λ copy. (k : List ℕ) → place_has copy k ≡ place_has place.now k) }
+{
+    match place {
+        Some(keys) => Ok(Some(keys.clone()?)),
+        None => Ok(None),
     }
 }
 

@@ -6,7 +6,7 @@ ghost use Rattle.std.specs.List.{IsDistinct};
 ghost use Rattle.grid_base.specs.Datum.{same_bytes};
 ghost use Rattle.seen_keys.specs.Passed.{has_passed, with_key, passing, all_passed, without_segment};
 
-use crate::places::{Places, add_key, add_keys, forget, holds};
+use crate::places::{Places, add_key, add_keys, copy_places, forget, holds};
 use grid_base::{Entries, Key, NoMemory, SegmentId};
 use std::alloc::Global;
 use std::marker::Model;
@@ -98,6 +98,14 @@ impl Seen {
         let entries = self.passing(alloc, segment, batch)?;
         add_keys(&mut self.places, alloc, segment, batch.as_slice())?;
         Ok(entries)
+    }
+
+    /// The same keys in memory of their own. The only failure is that memory runs out.
+    pub fn copy(&self, alloc: Global) -> Result<Seen, NoMemory>
+        ensures { IfOk result (λ copy. copy ≡ self.now) }
+    {
+        let places = copy_places(alloc, &self.places)?;
+        Ok(Seen { places })
     }
 
     /// The segment is complete: its keys are forgotten. It takes no memory.

@@ -22,7 +22,9 @@ fn a_key_passes_once_until_its_segment_is_complete(rt: HostRuntime) -> Result<()
     assert_eq!(rt; passed.len(), 1);
     let again = seen.pass_all(rt.alloc(), first, &batch)?;
     assert!(rt; again.is_empty());
+    let copied = seen.copy(rt.alloc())?;
     seen.completed(second);
+    assert!(rt; copied.passed(second, &key));
     assert!(rt; seen.passed(first, &key));
     assert!(rt; !seen.passed(second, &key));
     Ok(())
