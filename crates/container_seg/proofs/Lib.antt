@@ -1,0 +1,4 @@
+pub mod Trees
+pub mod Gathering
+pub mod PlaceLaws
+pub mod StoredLaws

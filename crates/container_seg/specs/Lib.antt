@@ -1,0 +1,5 @@
+pub mod Places
+pub mod Lifespans
+pub mod Scans
+pub mod Contents
+pub mod Stored

@@ -1,0 +1,11 @@
+//! The copies that one node holds: an ordered map of stamped values for each segment, and a clock.
+#![tactic(auto)]
+
+mod container;
+mod parts;
+mod segment_map;
+
+pub use container::Container;
+
+#[cfg(test)]
+mod tests;
