@@ -1,5 +1,5 @@
 -- The typing of pipelines: the limits and the needs of operations, and the first fault.
-use Rattle.std.specs.Prelude.{◌≡◌, ℕ, suc, ◌<◌, Bool, true, false, not, ◌&&◌, ◌||◌, nat_lt, nat_le, List, [], ◌∷◌, ◌++◌, length, take, Option, Some, None, is_some, Result, Ok, Err, if◌then◌else◌, slice_get}
+use Rattle.std.specs.Prelude.{◌≡◌, ℕ, ◌<◌, Bool, true, false, ◌&&◌, ◌||◌, nat_le, List, [], ◌∷◌, ◌++◌, length, take, Option, Some, None, is_some, Result, Ok, Err, if◌then◌else◌, slice_get}
 use Rattle.std.specs.List.{list_any, list_all}
 use Rattle.pipeline_expr.specs.Kinds.{◌>>=◌, same_kind, kind_of_expr}
 use Rattle.pipeline_expr.specs.declared.kind.Kind.{Kind}

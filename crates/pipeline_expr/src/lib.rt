@@ -1,4 +1,5 @@
 //! What a user asks of a list of entries: a pipeline of operations and an end, the expressions in
+//! it, the kinds of values, and the typing that every pipeline is held to before it runs.
 #![tactic(auto)]
 
 mod check_fault;
@@ -10,6 +11,7 @@ mod needs;
 mod op;
 mod pipeline;
 mod spread;
+mod typing;
 
 pub use check_fault::CheckFault;
 pub use end::End;
@@ -18,3 +20,4 @@ pub use kind::{Kind, ValueKind};
 pub use op::Op;
 pub use pipeline::{Ops, Pipeline};
 pub use spread::{Exprs, Spread};
+pub use typing::check;

@@ -1,0 +1,1 @@
+-- The test of equal expressions is exact.
