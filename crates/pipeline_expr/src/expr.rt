@@ -4,6 +4,7 @@ ghost use Rattle.std.specs.Prelude.{◌≡◌, IfOk, IsTrue, ◌↔◌};
 ghost use Rattle.pipeline_expr.specs.Same.{same_datum, same_expr};
 ghost use Rattle.pipeline_expr.specs.Kinds.{kind_of_expr};
 
+use crate::alike::Alike;
 use crate::kind::{Kind, ValueKind, kind_of, of_values};
 use crate::needs;
 use grid_base::{Datum, Duplicate, NoMemory};
@@ -153,6 +154,13 @@ impl Expr {
         }
     }
 
+    /// Whether the expressions are equal.
+    pub fn same(&self, other: &Expr) -> bool
+        ensures { IsTrue result ↔ (self.now ≡ other.now) }
+    {
+        self.equals(other)
+    }
+
     /// The test of `same`, form by form.
     fn equals(&self, other: &Expr) -> bool
         ensures { result ≡ same_expr self.now other.now }
@@ -194,6 +202,12 @@ fn same_value(a: &Datum, b: &Datum) -> bool
         (Datum::Flag(true), Datum::Flag(true)) => true,
         (Datum::Flag(false), Datum::Flag(false)) => true,
         _ => false,
+    }
+}
+
+impl Alike for Expr {
+    fn same(&self, other: &Expr) -> bool {
+        Expr::same(self, other)
     }
 }
 

@@ -2,6 +2,7 @@
 //! it, the kinds of values, and the typing that every pipeline is held to before it runs.
 #![tactic(auto)]
 
+mod alike;
 mod check_fault;
 mod end;
 mod expr;

@@ -1,7 +1,8 @@
 //! The operations of a pipeline.
 
-ghost use Rattle.std.specs.Prelude.{◌≡◌, IfOk};
+ghost use Rattle.std.specs.Prelude.{◌≡◌, IfOk, IsTrue, ◌↔◌};
 
+use crate::alike::Alike;
 use crate::expr::Expr;
 use crate::spread::Spread;
 use grid_base::{Duplicate, NoMemory};
@@ -31,6 +32,25 @@ impl Op {
             Op::FlatMap(spread) => Ok(Op::FlatMap(spread.copy(alloc)?)),
             Op::Distinct => Ok(Op::Distinct),
         }
+    }
+
+    /// Whether the operations are equal.
+    pub fn same(&self, other: &Op) -> bool
+        ensures { IsTrue result ↔ (self.now ≡ other.now) }
+    {
+        match (self, other) {
+            (Op::Filter(a), Op::Filter(b)) => a.same(b),
+            (Op::Map(a), Op::Map(b)) => a.same(b),
+            (Op::FlatMap(a), Op::FlatMap(b)) => a.same(b),
+            (Op::Distinct, Op::Distinct) => true,
+            _ => false,
+        }
+    }
+}
+
+impl Alike for Op {
+    fn same(&self, other: &Op) -> bool {
+        Op::same(self, other)
     }
 }
 

@@ -1,7 +1,8 @@
 //! Pipelines.
 
-ghost use Rattle.std.specs.Prelude.{◌≡◌, IfOk};
+ghost use Rattle.std.specs.Prelude.{◌≡◌, IfOk, IsTrue, ◌↔◌};
 
+use crate::alike::same_list;
 use crate::end::End;
 use crate::lists::copy_list;
 use crate::op::Op;
@@ -27,6 +28,16 @@ impl Pipeline {
     {
         let ops = copy_list(alloc, &self.ops)?;
         Ok(Pipeline { ops, end: self.end })
+    }
+
+    /// Whether the pipelines are equal.
+    pub fn same(&self, other: &Pipeline) -> bool
+        ensures { IsTrue result ↔ (self.now ≡ other.now) }
+    {
+        if self.end != other.end {
+            return false;
+        }
+        same_list(self.ops.as_slice(), other.ops.as_slice())
     }
 }
 

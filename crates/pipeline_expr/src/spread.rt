@@ -1,7 +1,8 @@
 //! What a flatmap replaces an element by.
 
-ghost use Rattle.std.specs.Prelude.{◌≡◌, ◌+◌, IfOk, length};
+ghost use Rattle.std.specs.Prelude.{◌≡◌, IfOk, IsTrue, ◌↔◌};
 
+use crate::alike::same_list;
 use crate::expr::Expr;
 use crate::lists::copy_list;
 use grid_base::{Duplicate, NoMemory};
@@ -34,6 +35,16 @@ impl Exprs {
         let rest = copy_list(alloc, &self.rest)?;
         Ok(Exprs { first, rest })
     }
+
+    /// Whether the lists are equal.
+    pub fn same(&self, other: &Exprs) -> bool
+        ensures { IsTrue result ↔ (self.now ≡ other.now) }
+    {
+        if !self.first.same(&other.first) {
+            return false;
+        }
+        same_list(self.rest.as_slice(), other.rest.as_slice())
+    }
 }
 
 impl Spread {
@@ -44,6 +55,17 @@ impl Spread {
         match self {
             Spread::Each(list) => Ok(Spread::Each(list.copy(alloc)?)),
             Spread::Words(expr) => Ok(Spread::Words(expr.copy(alloc)?)),
+        }
+    }
+
+    /// Whether the spreads are equal.
+    pub fn same(&self, other: &Spread) -> bool
+        ensures { IsTrue result ↔ (self.now ≡ other.now) }
+    {
+        match (self, other) {
+            (Spread::Each(a), Spread::Each(b)) => a.same(b),
+            (Spread::Words(a), Spread::Words(b)) => a.same(b),
+            _ => false,
         }
     }
 }
