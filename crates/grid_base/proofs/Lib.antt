@@ -1,2 +1,3 @@
 mod InlineOrder
+pub mod NodesLemmas
 pub mod Order

@@ -203,3 +203,25 @@ impl<T: Duplicate> Sequence<T> {
         Ok(Sequence { items: copied })
     }
 }
+
+impl<T: PartialEq> PartialEq for Sequence<T> {
+    ghost use Rattle.std.proofs.Common.{rules};
+    ghost use Rattle.std.specs.Cmp.Lexicographic.{pointwise};
+    ghost use Rattle.std.specs.Cmp.Rules.{comparing};
+    ghost use Rattle.std.specs.Ordering.{on};
+
+    ghost eq = { λ a b. pointwise T.eq a.list b.list };
+
+    fn eq(&self, other: &Sequence<T>) -> bool {
+        self.as_slice() == other.as_slice()
+    }
+
+    ghost laws = { Prim.search (comparing, rules) };
+}
+
+impl<T: Eq> Eq for Sequence<T> {
+    ghost use Rattle.std.proofs.Common.{rules};
+    ghost use Rattle.std.specs.Cmp.Rules.{comparing};
+
+    ghost laws = { Prim.search (comparing, rules) };
+}
