@@ -14,7 +14,7 @@ both_true : (a b : Bool) → (a && b) ≡ true → (a ≡ true) × (b ≡ true)
 both_true true b e = (refl, e)
 both_true false b e = absurd (true≢false (sym e))
 
-same_bytes : (xs ys : List ℕ) → pointwise nat_eq xs ys ≡ true → xs ≡ ys
+pub same_bytes : (xs ys : List ℕ) → pointwise nat_eq xs ys ≡ true → xs ≡ ys
 same_bytes [] [] e = refl
 same_bytes [] (y ∷ ys) e = absurd (true≢false (sym e))
 same_bytes (x ∷ xs) [] e = absurd (true≢false (sym e))
@@ -22,7 +22,7 @@ same_bytes (x ∷ xs) (y ∷ ys) e =
     let parts = both_true (nat_eq x y) (pointwise nat_eq xs ys) e in
     ap₂ (λ z zs. z ∷ zs) (eqb-true x y parts.0) (same_bytes xs ys parts.1)
 
-bytes_self : (xs : List ℕ) → pointwise nat_eq xs xs ≡ true
+pub bytes_self : (xs : List ℕ) → pointwise nat_eq xs xs ≡ true
 bytes_self [] = refl
 bytes_self (x ∷ xs) = ap₂ (λ a b. a && b) (eq-eqb x x refl) (bytes_self xs)
 

@@ -1,12 +1,13 @@
 //! Expressions over one element of a list.
 
 ghost use Rattle.std.specs.Prelude.{◌≡◌, IfOk, IsTrue, ◌↔◌};
-ghost use Rattle.pipeline_expr.specs.Same.{same_datum, same_expr};
+ghost use Rattle.pipeline_expr.specs.Same.{same_expr};
 ghost use Rattle.pipeline_expr.specs.Kinds.{kind_of_expr};
 
 use crate::alike::Alike;
 use crate::kind::{Kind, ValueKind, kind_of, of_values};
 use crate::needs;
+use crate::values::same_value;
 use grid_base::{Datum, Duplicate, NoMemory};
 use sqlite_items::Boxed;
 use std::alloc::Global;
@@ -189,19 +190,6 @@ impl Expr {
                 && b.get().equals(d.get()),
             _ => false,
         }
-    }
-}
-
-/// Whether two values are equal.
-fn same_value(a: &Datum, b: &Datum) -> bool
-    ensures { result ≡ same_datum a.now b.now }
-{
-    match (a, b) {
-        (Datum::Int(x), Datum::Int(y)) => x == y,
-        (Datum::Text(x), Datum::Text(y)) => x == y,
-        (Datum::Flag(true), Datum::Flag(true)) => true,
-        (Datum::Flag(false), Datum::Flag(false)) => true,
-        _ => false,
     }
 }
 

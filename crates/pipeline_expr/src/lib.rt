@@ -3,6 +3,7 @@
 #![tactic(auto)]
 
 mod alike;
+mod answer;
 mod check_fault;
 mod end;
 mod expr;
@@ -13,7 +14,9 @@ mod op;
 mod pipeline;
 mod spread;
 mod typing;
+mod values;
 
+pub use answer::Answer;
 pub use check_fault::CheckFault;
 pub use end::End;
 pub use expr::Expr;
