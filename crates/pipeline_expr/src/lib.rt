@@ -25,3 +25,6 @@ pub use op::Op;
 pub use pipeline::{Ops, Pipeline};
 pub use spread::{Exprs, Spread};
 pub use typing::check;
+
+#[cfg(test)]
+mod tests;
