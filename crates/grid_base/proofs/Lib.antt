@@ -1,3 +1,4 @@
+pub mod DatumLemmas
 mod InlineOrder
 pub mod NodesLemmas
 pub mod Order

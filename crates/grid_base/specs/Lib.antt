@@ -1,3 +1,4 @@
+pub mod Datum
 pub mod Held
 pub mod InlineText
 pub mod Key

@@ -8,8 +8,8 @@ use crate::no_memory::NoMemory;
 use std::alloc::Global;
 use std::marker::Model;
 
-/// Some entries of a segment with their deadlines, and whether they are its last ones. Contracts see the entries' list,
-/// without its spare places.
+/// Some entries of a segment with their deadlines, and whether they are its last ones. Contracts
+/// see the entries' list, without its spare places.
 #[derive(Debug, Drop)]
 pub struct Chunk {
     /// The entries.
