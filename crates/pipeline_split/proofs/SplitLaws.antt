@@ -29,7 +29,7 @@ ops_in_two (FlatMap spread ∷ ops) xs = ops_in_two ops (op_items (FlatMap sprea
 ops_in_two (Distinct ∷ ops) xs = refl
 
 -- where there is no distinct, the first half is all
-none_before : (ops : List Op) → list_any is_distinct ops ≡ false → before_distinct ops ≡ ops
+pub none_before : (ops : List Op) → list_any is_distinct ops ≡ false → before_distinct ops ≡ ops
 none_before [] h = refl
 none_before (Filter e ∷ ops) h = ap (λ os. Filter e ∷ os) (none_before ops h)
 none_before (Map e ∷ ops) h = ap (λ os. Map e ∷ os) (none_before ops h)

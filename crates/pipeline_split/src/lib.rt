@@ -14,7 +14,7 @@ pub use evaluation::{finish, piece_of};
 pub use halves::{Local, Remote, split};
 pub use laws::{
     finished_nothing_is_the_empty_answer, finished_piece_is_the_answer, nothing_changes_no_piece,
-    pieces_join, pieces_join_in_any_groups,
+    pieces_fit_in_any_groups, pieces_join, pieces_join_in_any_groups, typed_pieces_fit,
 };
 pub use piece::Piece;
 
