@@ -1,0 +1,5 @@
+pub mod Values
+pub mod Evaluation
+pub mod Lists
+pub mod Pipes
+pub mod Seen

@@ -1,0 +1,4 @@
+pub mod SplitLaws
+pub mod PieceLaws
+pub mod FitLaws
+pub mod SoundLaws
