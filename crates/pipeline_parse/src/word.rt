@@ -1,0 +1,12 @@
+//! Choices that are written as words.
+
+ghost use Rattle.std.specs.Prelude.{◌≡◌, List, ℕ};
+
+/// A choice that has a word of its own.
+pub trait Word: Copy {
+    ghost word: { Self → List ℕ };
+
+    /// The word of the choice.
+    fn word(self) -> &'static str
+        ensures { result.now ≡ word self };
+}
