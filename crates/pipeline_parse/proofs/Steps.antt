@@ -1,8 +1,9 @@
 -- The steps of the readers' loops.
 use Rattle.std.proofs.Common.{◌≡◌, ℕ, suc, ◌+◌, ◌-◌, ◌*◌, ◌<◌, ◌≤◌, Bool, true, false, ◌&&◌, ◌==◌, cond, min, nat_le, nat_lt, List, ◌++◌, append_assoc, eq-eqb, ne_eqb, [], ◌∷◌, length, get_or, take, drop, Some, None, Result, Ok, Err, refl, sym, ap, ◌∙◌, arith}
-use Rattle.std.proofs.lemmas.List.{drop_more, drop_all, take_more, append-nil, length-drop}
+use Rattle.std.proofs.lemmas.List.{drop_more, drop_all, take_more, append-nil, length-drop, take_all}
+use Rattle.grid_base.specs.Key.{is_key_byte}
 use Rattle.grid_base.specs.Text.{is_text_byte}
-use Rattle.pipeline_parse.specs.Reading.{Read, ◌>>=◌, with_byte, quoted_at, first_of_two, literal_at, word_at, digits_at, is_digit}
+use Rattle.pipeline_parse.specs.Reading.{Read, ◌>>=◌, with_byte, quoted_at, first_of_two, literal_at, word_at, digits_at, is_digit, before_bytes, key_bytes_at}
 
 -- a word that isn't over needs a byte
 pub literal_ends : (w s : List ℕ) (i : ℕ) → i < length w → s ≡ [] → literal_at (drop i w) s ≡ Err 0
@@ -136,3 +137,40 @@ quoted_whole room s = ap (λ n. with_front [] (quoted_at n s)) (let e : room - 0
     same : (r : Read (List ℕ)) → with_front [] r ≡ r
     same (Ok p) = refl
     same (Err n) = refl
+
+-- the bytes of a key with some before them
+abbrev pub key_front : List ℕ → List ℕ × List ℕ → List ℕ × List ℕ
+key_front front r = (front ++ r.0, r.1)
+
+module _ (s : List ℕ) (i b : ℕ) (lt : i < length s) (is : b ≡ get_or s i 0) where
+  key_here : (room : ℕ) → key_front (take i s) (key_bytes_at room (drop i s))
+      ≡ key_front (take i s) (cond (nat_lt 0 room && is_key_byte b) (before_bytes b (key_bytes_at (room - 1) (drop (i + 1) s))) ([], b ∷ drop (i + 1) s))
+  key_here room = ap (λ x. key_front (take i s) (key_bytes_at room x)) (drop_more s i 0 lt ∙ ap (λ x. x ∷ drop (i + 1) s) (sym is))
+
+  -- a further byte of a key
+  pub key_more : (room : ℕ) → (nat_lt 0 (room - i) && is_key_byte b) ≡ true
+      → key_front (take i s) (key_bytes_at (room - i) (drop i s)) ≡ key_front (take (i + 1) s) (key_bytes_at (room - (i + 1)) (drop (i + 1) s))
+  key_more room goes =
+      key_here (room - i)
+      ∙ ap (λ t. key_front (take i s) (cond t (before_bytes b (key_bytes_at (room - i - 1) (drop (i + 1) s))) ([], b ∷ drop (i + 1) s))) goes
+      ∙ ap (λ x. (x, (key_bytes_at (room - i - 1) (drop (i + 1) s)).1)) (sym (append_assoc (take i s) (b ∷ []) (key_bytes_at (room - i - 1) (drop (i + 1) s)).0))
+      ∙ ap (λ n. key_front (take i s ++ b ∷ []) (key_bytes_at n (drop (i + 1) s))) (let e : room - i - 1 ≡ room - (i + 1) = omega arith in e)
+      ∙ ap (λ x. key_front x (key_bytes_at (room - (i + 1)) (drop (i + 1) s))) (ap (λ x. take i s ++ x ∷ []) is ∙ sym (take_more s i 0 lt))
+
+  -- a byte that no key has there
+  pub key_stops : (room : ℕ) → (nat_lt 0 (room - i) && is_key_byte b) ≡ false → key_front (take i s) (key_bytes_at (room - i) (drop i s)) ≡ (take i s, drop i s)
+  key_stops room goes =
+      key_here (room - i)
+      ∙ ap (λ t. key_front (take i s) (cond t (before_bytes b (key_bytes_at (room - i - 1) (drop (i + 1) s))) ([], b ∷ drop (i + 1) s))) goes
+      ∙ ap (λ x. (x, b ∷ drop (i + 1) s)) (append-nil (take i s))
+      ∙ ap (λ x. (take i s, x)) (ap (λ x. x ∷ drop (i + 1) s) is ∙ sym (drop_more s i 0 lt))
+
+-- no byte is left for a key
+pub key_ends : (s : List ℕ) (i room : ℕ) → length s ≤ i → key_front (take i s) (key_bytes_at (room - i) (drop i s)) ≡ (take (length s) s, drop (length s) s)
+key_ends s i room over =
+    ap (λ x. key_front (take i s) (key_bytes_at (room - i) x)) (drop_all i s over)
+    ∙ ap (λ x. (x, [])) (append-nil (take i s) ∙ take_all i s over ∙ sym (take_all (length s) s (omega arith)))
+    ∙ ap (λ x. (take (length s) s, x)) (sym (drop_all (length s) s (omega arith)))
+
+pub key_whole : (room : ℕ) (s : List ℕ) → key_front [] (key_bytes_at (room - 0) s) ≡ key_bytes_at room s
+key_whole room s = ap (λ n. key_bytes_at n s) (let e : room - 0 ≡ room = omega arith in e)

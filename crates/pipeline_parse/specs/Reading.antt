@@ -1,8 +1,10 @@
 -- Readers: what stands at the front of some bytes, and what is left behind it.
-use Rattle.std.specs.Prelude.{ℕ, suc, ◌+◌, ◌-◌, ◌*◌, ◌^◌, Bool, false, ◌&&◌, ◌||◌, ◌==◌, nat_lt, nat_le, min, List, [], ◌∷◌, length, Option, Some, None, Result, Ok, Err, if◌then◌else◌, ℤ, pos, negsuc}
+use Rattle.std.specs.Prelude.{ℕ, suc, ◌+◌, ◌-◌, ◌*◌, ◌^◌, Bool, false, ◌&&◌, ◌||◌, ◌==◌, nat_lt, nat_le, min, List, [], ◌∷◌, length, Option, Some, None, Result, Ok, Err, if◌then◌else◌, ℤ, pos, negsuc, true}
+use Rattle.grid_base.specs.Key.{is_key, is_key_byte}
 use Rattle.grid_base.specs.Text.{is_text_byte}
+use Rattle.pipeline_parse.specs.Grammar.{flag_text}
 use Rattle.grid_base.specs.declared.datum.Datum.{Datum}
-use Rattle.grid_base.specs.declared.datum.Datum.TheVariants.{Int, Text}
+use Rattle.grid_base.specs.declared.datum.Datum.TheVariants.{Int, Text, Flag}
 
 -- what was read and the bytes behind it; or how many bytes are left where no text goes on
 abbrev pub Read : Type 0 → Type 0
@@ -80,3 +82,23 @@ plain_at (b ∷ s) =
 abbrev pub begins_plain : List ℕ → Bool
 begins_plain [] = false
 begins_plain (b ∷ s) = b == 34 || (b == 45 || is_digit b)
+
+-- both flags
+abbrev pub flags : List Bool
+flags = true ∷ false ∷ []
+
+-- a value
+unfoldable pub datum_at : List ℕ → Read Datum
+datum_at s = if begins_plain s then plain_at s else (word_at flag_text flags s >>= (λ p. Ok (Flag p.0, p.1)))
+
+abbrev pub before_bytes : ℕ → List ℕ × List ℕ → List ℕ × List ℕ
+before_bytes b r = (b ∷ r.0, r.1)
+
+-- the bytes in front that may stand in a key, of which there is room for so many, and what is behind them
+abbrev pub key_bytes_at : ℕ → List ℕ → List ℕ × List ℕ
+key_bytes_at room [] = ([], [])
+key_bytes_at room (b ∷ s) = if nat_lt 0 room && is_key_byte b then before_bytes b (key_bytes_at (room - 1) s) else ([], b ∷ s)
+
+-- a key: the longest front that is one
+abbrev pub key_at : List ℕ → Read (List ℕ)
+key_at s = if is_key (key_bytes_at 64 s).0 then Ok (key_bytes_at 64 s) else Err (length s)

@@ -1,15 +1,17 @@
 //! Readers of words, numbers and values from the front of a text, which other texts share.
 
 ghost use Rattle.std.specs.Prelude.{◌≡◌, ◌≤◌, ◌<◌, ◌+◌, ◌-◌, ◌*◌, ◌^◌, ◌&&◌, if◌then◌else◌, nat_le, nat_lt, drop, length, negsuc, pos, take, IfErr, IfOk};
+ghost use Rattle.grid_base.specs.Key.{is_key_byte};
 ghost use Rattle.grid_base.specs.Text.{is_text_byte};
+ghost use Rattle.pipeline_parse.specs.Grammar.{flag_text};
 ghost use Rattle.pipeline_parse.specs.Gives.{Gives, Passes, Reads};
 ghost use Rattle.pipeline_parse.specs.Reading as spec;
-ghost use Rattle.pipeline_parse.specs.Reading.{begins_plain, digits_at, int_at, literal_at, number_at, plain_at, positive_at, quoted_at, word_at};
+ghost use Rattle.pipeline_parse.specs.Reading.{begins_plain, digits_at, int_at, literal_at, number_at, plain_at, positive_at, quoted_at, word_at, datum_at, flags, key_at, key_bytes_at};
 
 use crate::halt::{Halt, Unread};
 use crate::word::Word;
-use grid_base::limits::LONGEST_TEXT;
-use grid_base::{Datum, Text, TextFault};
+use grid_base::limits::{LONGEST_KEY, LONGEST_TEXT};
+use grid_base::{Datum, Key, Text, TextFault};
 use std::alloc::Global;
 
 /// Reads a word, and gives what is left behind it. It takes no memory.
@@ -202,5 +204,55 @@ fn read_quoted<'a>(alloc: Global, text: &'a [u8]) -> Result<(Text, &'a [u8]), Ha
         Ok(quoted) => Ok((quoted, &text[length + 1..])),
         Err(TextFault::NoMemory) => Err(Halt::NoMemory),
         Err(TextFault::Bad) => Err(Halt::Left(text.len())),
+    }
+}
+
+/// Reads a flag. It takes no memory.
+pub fn read_flag(text: &[u8]) -> Result<(bool, &[u8]), Unread>
+    ensures { Reads result (word_at flag_text flags text.now) }
+{
+    read_word(&[true, false], text)
+}
+
+/// Reads a value.
+#[tactic(auto, unfolding(crate::specs::Reading::datum_at))]
+pub fn read_datum<'a>(alloc: Global, text: &'a [u8]) -> Result<(Datum, &'a [u8]), Halt>
+    ensures { Gives result (datum_at text.now) }
+{
+    if begins_plain(text) {
+        return read_plain(alloc, text);
+    }
+    let (flag, rest) = read_flag(text)?;
+    Ok((Datum::Flag(flag), rest))
+}
+
+/// How many bytes in front may stand in a key, of which there is room for so many.
+fn key_length(room: usize, text: &[u8]) -> usize
+    ensures within { result ≤ length text.now }
+    ensures front { key_bytes_at room text.now ≡ (take result text.now, drop result text.now) }
+{
+    for (place, byte) in text.iter().enumerate() {
+        if !key_goes_on(room, place, *byte) {
+            return place;
+        }
+    }
+    text.len()
+}
+
+/// Whether a key goes on with a byte at a place, where there is room for so many bytes.
+fn key_goes_on(room: usize, place: usize, byte: u8) -> bool
+    ensures { result ≡ (nat_lt 0 (room - place) && is_key_byte byte) }
+{
+    place < room && byte >= 0x21 && byte <= 0x7E && byte != b'"'
+}
+
+/// Reads a key: the longest front that is one. It takes no memory.
+pub fn read_key(text: &[u8]) -> Result<(Key, &[u8]), Unread>
+    ensures { Reads result (key_at text.now) }
+{
+    let length = key_length(LONGEST_KEY, text);
+    match Key::new(&text[..length]) {
+        Ok(key) => Ok((key, &text[length..])),
+        Err(_) => Err(Unread { left: text.len() }),
     }
 }

@@ -99,6 +99,7 @@ const LONG: &str =
 fn reads_and_prints(rt: HostRuntime) -> Result<(), Fail> {
     let alloc = rt.alloc();
     for (text, stop) in TEXTS {
+        assert!(rt; text.len() <= 1024);
         match (parse_pipeline(alloc, text.as_bytes()), stop) {
             (Ok(pipeline), None) => {
                 let printed = print_pipeline(alloc, &pipeline)?;
@@ -109,6 +110,7 @@ fn reads_and_prints(rt: HostRuntime) -> Result<(), Fail> {
         }
     }
     let long = LONG.as_bytes();
+    assert!(rt; long.len() <= 1024);
     for cut in 0..long.len() {
         let fault = parse_pipeline(alloc, &long[..cut]).err();
         assert!(rt;

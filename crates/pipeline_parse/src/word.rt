@@ -10,3 +10,13 @@ pub trait Word: Copy {
     fn word(self) -> &'static str
         ensures { result.now ≡ word self };
 }
+
+impl Word for bool {
+    ghost use Rattle.pipeline_parse.specs.Grammar.{flag_text};
+
+    ghost word = { flag_text };
+
+    fn word(self) -> &'static str {
+        if self { "true" } else { "false" }
+    }
+}
