@@ -6,6 +6,7 @@ pub mod FullExpr
 pub mod FullPipeline
 pub mod Laws
 pub mod ParseLaws
+pub mod SharedLaws
 pub mod Steps
 pub mod TextSteps
 pub mod ValueLaws
