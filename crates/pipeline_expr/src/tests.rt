@@ -1,67 +1,67 @@
 //! Pipelines made by hand, checked, copied and compared.
 
-use crate::{
-    Answer, CheckFault, End, Expr, Exprs, Kind, Op, Ops, Pipeline, Spread, ValueKind, check,
-};
-use grid_base::{Datum, Item};
+use crate::{Answer, CheckFault, End, Expr, Exprs, Kind, Op, Pipeline, Spread, ValueKind, check};
+use grid_base::{Datum, NoMemory};
 use sqlite_items::{Boxed, Items};
 use std::alloc::Global;
 use std::test::Fail;
 
-/// `filter (0 < value)` and then the given operations and end.
-fn positives(alloc: Global, more: Option<Op>, end: End) -> Result<Pipeline, Fail> {
-    let zero = Boxed::new(alloc, Expr::Lit(Datum::Int(0)))?;
-    let test = Expr::Less(zero, Boxed::new(alloc, Expr::Value)?);
-    let mut ops: Ops = Items::new(alloc);
-    ops.push(Op::Filter(test))?;
-    if let Some(op) = more {
-        ops.push(op)?;
-    }
+/// A pipeline of one operation.
+fn one(alloc: Global, op: Op, end: End) -> Result<Pipeline, NoMemory> {
+    let mut ops = Items::new(alloc);
+    ops.push(op)?;
     Ok(Pipeline { ops, end })
 }
 
+/// `filter (0 < value)`
+fn positive(alloc: Global) -> Result<Op, NoMemory> {
+    let zero = Boxed::new(alloc, Expr::Lit(Datum::Int(0)))?;
+    let value = Boxed::new(alloc, Expr::Value)?;
+    Ok(Op::Filter(Expr::Less(zero, value)))
+}
+
 /// `flatmap [value, value, ..]` with so many expressions.
-fn values(alloc: Global, count: u8) -> Result<Op, Fail> {
+fn values(alloc: Global, count: u8) -> Result<Op, NoMemory> {
     let mut rest = Items::new(alloc);
     for _ in 1..count {
         rest.push(Expr::Value)?;
     }
-    let list = Exprs {
-        first: Expr::Value,
-        rest,
-    };
-    Ok(Op::FlatMap(Spread::Each(list)))
+    let first = Expr::Value;
+    Ok(Op::FlatMap(Spread::Each(Exprs { first, rest })))
+}
+
+/// How the check of a pipeline of so many values ends.
+fn checked(alloc: Global, count: u8, end: End) -> Result<Result<Kind, CheckFault>, NoMemory> {
+    let pipeline = one(alloc, values(alloc, count)?, end)?;
+    Ok(check(&pipeline, ValueKind::Int))
 }
 
 #[test]
 fn checks(rt: HostRuntime) -> Result<(), Fail> {
     let alloc = rt.alloc();
-    let sum = positives(alloc, Some(Op::Map(Expr::Value)), End::Sum)?;
-    assert_eq!(rt; check(&sum, ValueKind::Int), Ok(Kind::Int));
+    assert_eq!(rt; checked(alloc, 8, End::Max)?, Ok(Kind::Int));
     assert_eq!(rt;
-        check(&sum, ValueKind::Text),
-        Err(CheckFault::Mistyped { op: 0 })
+        checked(alloc, 9, End::Max)?,
+        Err(CheckFault::Over { op: 0 })
     );
-    let unmapped = positives(alloc, None, End::Sum)?;
+    let pipeline = one(alloc, positive(alloc)?, End::Sum)?;
     assert_eq!(rt;
-        check(&unmapped, ValueKind::Int),
+        check(&pipeline, ValueKind::Int),
         Err(CheckFault::Mistyped { op: 1 })
     );
-    let eight = positives(alloc, Some(values(alloc, 8)?), End::Max)?;
-    assert_eq!(rt; check(&eight, ValueKind::Int), Ok(Kind::Int));
-    let nine = positives(alloc, Some(values(alloc, 9)?), End::Max)?;
     assert_eq!(rt;
-        check(&nine, ValueKind::Int),
-        Err(CheckFault::Over { op: 1 })
+        check(&pipeline, ValueKind::Text),
+        Err(CheckFault::Mistyped { op: 0 })
     );
-    let copy = sum.copy(alloc)?;
-    assert!(rt; copy.same(&sum));
-    assert!(rt; !nine.copy(alloc)?.same(&eight));
+    Ok(())
+}
+
+#[test]
+fn copies(rt: HostRuntime) -> Result<(), Fail> {
+    let alloc = rt.alloc();
+    let pipeline = one(alloc, positive(alloc)?, End::Count)?;
+    assert!(rt; pipeline.copy(alloc)?.same(&pipeline));
     let answer = Answer::Best(Some(Datum::Int(-3)));
     assert!(rt; answer.copy(alloc)?.same(&answer));
-    let mut items: Items<Item> = Items::new(alloc);
-    items.push(Item::Datum(Datum::Flag(true)))?;
-    let list = Answer::List(items);
-    assert!(rt; list.copy(alloc)?.same(&list));
     Ok(())
 }

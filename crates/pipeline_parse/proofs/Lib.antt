@@ -1,0 +1,13 @@
+pub mod Depth
+pub mod Equations
+pub mod Exactness
+pub mod Full
+pub mod FullExpr
+pub mod FullPipeline
+pub mod Laws
+pub mod ParseLaws
+pub mod SharedLaws
+pub mod Steps
+pub mod TextSteps
+pub mod ValueLaws
+pub mod WordLaws
