@@ -1,6 +1,6 @@
 -- Each event of a run may happen where it stands.
 use Rattle.std.proofs.Common.{◌≡◌, ℕ, zero, suc, ◌+◌, Bool, true, false, ◌&&◌, List, [], ◌∷◌, ◌++◌, Option, None, Some, is_some, refl, sym, ap, subst, ◌∙◌, if◌then◌else◌, inl, inr}
-use Rattle.std.specs.Prelude.{Result, Ok, Err}
+use Rattle.std.specs.Prelude.{Result, Ok, Err, OnOk}
 use Rattle.grid_base.specs.declared.limits.TheConstants.{LAST_CALL}
 use Rattle.grid_event.specs.declared.command.Command.{Command}
 use Rattle.grid_event.specs.declared.command.Command.TheVariants.{Drive}
@@ -138,6 +138,15 @@ left_is_run (Ok value) h script left = ap is_run left.1 ∙ run_of-is_run script
 left_is_run (Err (Full line)) h script left = ap is_run left.1 ∙ run_of-is_run script
 left_is_run (Err NoMemory) h script (inl empty) = ap is_run empty
 left_is_run (Err NoMemory) h script (inr front) = front_is_run h (run_of script).history script.config (run_of-kept script).settings (run_of-is_run script) front
+
+-- the journal has the settings of the script
+pub run_of-settings : (script : Script) → (run_of script).history.config ≡ Some script.config
+run_of-settings script = (run_of-kept script).settings
+
+pub settings_left : {A : Type 0} (result : Result A RunFault) (h : History) (script : Script) → LeavesRun result h (run_of script) →
+    OnOk result (h.config ≡ Some script.config)
+settings_left (Ok value) h script left = ap (λ (history : History). history.config) left.1 ∙ run_of-settings script
+settings_left (Err fault) h script left = tt
 
 -- the run is that of the lines and then of all calls
 pub run_of-parts : (script : Script) (run : Progress) → after_lines script.lines (begin script.config) ≡ run → run_of script ≡ all_finished LAST_CALL 1 run

@@ -1,6 +1,6 @@
 //! Stepped runs.
 
-ghost use Rattle.std.specs.Prelude.{◌≡◌, true};
+ghost use Rattle.std.specs.Prelude.{◌≡◌, true, OnOk, Some};
 ghost use Rattle.grid_event.specs.Histories.{blank};
 ghost use Rattle.cluster_model.specs.Step.{is_run};
 ghost use Rattle.step_run.specs.StepRuns.{run_of};
@@ -20,6 +20,7 @@ use std::alloc::Global;
 pub fn run_steps(alloc: Global, script: &StepScript, journal: &mut Journal) -> Result<(), RunFault>
     requires { journal.old.history ≡ blank }
     ensures leaves { LeavesRun result journal.new.history (run_of script.now) }
+    ensures settings { OnOk result (journal.new.history.config ≡ Some script.now.config) }
     ensures run { is_run journal.new.history ≡ true }
 {
     let config = script.config;

@@ -4,7 +4,7 @@ use Rattle.grid_base.specs.declared.limits.TheConstants.{LAST_CALL}
 use Rattle.step_run.specs.Outcomes.{Leaves, LeavesAt, running}
 use Rattle.step_run.specs.StepRuns.{Progress, after_lines, all_finished, begin, run_of}
 use Rattle.step_run.proofs.Fronts.{all_finished-grows, all_finished-stays, leaves_on}
-use Rattle.step_run.proofs.Kept.{begun_with, leaves_run, left_is_run, run_of-parts}
+use Rattle.step_run.proofs.Kept.{begun_with, leaves_run, left_is_run, run_of-parts, settings_left}
 use Rattle.step_run.proofs.runs.run_steps.Goals as goal
 
 pub returns-in-Ok-do_lines-clause-leaves : goal.returns-in-Ok-do_lines-clause-leaves
@@ -27,6 +27,19 @@ returns-in-Ok-do_lines-clause-run c =
     begun_with (record { config = c.script.inside.config; lines = c.script.inside.lines }) script c.in-Ok.core c.start.new.self.history c.as_slice.result.now
     c.script.view_is c.in-Ok.ensures c.start.ensures.started c.as_slice.ensures in
     left_is_run c.finish_all.result c.finish_all.new.journal.history script
+    (leaves_run c.finish_all.result c.finish_all.new.core c.finish_all.new.journal.history (run_of script)
+    (subst (λ (target : Progress). Leaves c.finish_all.result c.finish_all.new.core c.finish_all.new.journal.history target)
+    (sym (run_of-parts script run (lines ∙ c.in-Ok-do_lines.ensures.leaves)))
+    c.finish_all.ensures.leaves))
+
+pub returns-in-Ok-do_lines-clause-settings : goal.returns-in-Ok-do_lines-clause-settings
+returns-in-Ok-do_lines-clause-settings c =
+    let script = c.args.script.now in
+    let run = running c.do_lines.new.core c.do_lines.new.journal.history in
+    let lines =
+    begun_with (record { config = c.script.inside.config; lines = c.script.inside.lines }) script c.in-Ok.core c.start.new.self.history c.as_slice.result.now
+    c.script.view_is c.in-Ok.ensures c.start.ensures.started c.as_slice.ensures in
+    settings_left c.finish_all.result c.finish_all.new.journal.history script
     (leaves_run c.finish_all.result c.finish_all.new.core c.finish_all.new.journal.history (run_of script)
     (subst (λ (target : Progress). Leaves c.finish_all.result c.finish_all.new.core c.finish_all.new.journal.history target)
     (sym (run_of-parts script run (lines ∙ c.in-Ok-do_lines.ensures.leaves)))

@@ -1,0 +1,13 @@
+-- The number of each status.
+use Rattle.std.specs.Prelude.{ℕ}
+use Rattle.grid_shell.specs.declared.status.Status.{Status}
+use Rattle.grid_shell.specs.declared.status.Status.TheVariants.{Done, Usage, ScriptRefused, ReadFault, WriteFault, NoMemory, Full}
+
+abbrev pub number_of : Status → ℕ
+number_of Done = 0
+number_of Usage = 2
+number_of ScriptRefused = 3
+number_of ReadFault = 4
+number_of WriteFault = 5
+number_of NoMemory = 6
+number_of Full = 7
