@@ -14,6 +14,7 @@ only_word (one ∷ two ∷ more) word some few first =
 -- such a list is another list of one word exactly where the words are the same
 pub only_word_is : (words : List (List ℕ)) (word other : List ℕ) (answer : Bool) → words ≡ word ∷ [] → (answer ≡ true) ↔ (word ≡ other) →
     (answer ≡ true) ↔ (words ≡ other ∷ [])
-only_word_is words word other answer one says =
-    (λ yes. one ∙ ap (λ (w : List ℕ). w ∷ []) (says.0 yes),
-    λ same. says.1 (ap (λ (ws : List (List ℕ)). slice_index_or ws 0 word) (sym one ∙ same)))
+only_word_is words word other answer one says = (
+  λ yes. one ∙ ap (λ (w : List ℕ). w ∷ []) (says.0 yes),
+  λ same. says.1 (ap (λ (ws : List (List ℕ)). slice_index_or ws 0 word) (sym one ∙ same)),
+)

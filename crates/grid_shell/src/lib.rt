@@ -3,6 +3,8 @@
 
 mod plain;
 mod status;
+#[cfg(test)]
+mod tests;
 mod texts;
 
 pub use plain::run_plain;

@@ -58,9 +58,9 @@ pub fn run_plain<S: Source, K: Sink>(
     ensures read_fault { result ≡ Status.ReadFault → Rose (S.faults source.old) (S.faults source.new) }
     ensures refused { result ≡ Status.ScriptRefused →
         (GaveTooMany (S.left source.old) (S.left source.new)
-            × Wrote (K.told sink.old) (K.told sink.new) (K.faults sink.old) (K.faults sink.new) too_long_line)
+        × Wrote (K.told sink.old) (K.told sink.new) (K.faults sink.old) (K.faults sink.new) too_long_line)
         ⊎ (HadNoScript (S.left source.old)
-            × Wrote (K.told sink.old) (K.told sink.new) (K.faults sink.old) (K.faults sink.new) not_yet_line) }
+        × Wrote (K.told sink.old) (K.told sink.new) (K.faults sink.old) (K.faults sink.new) not_yet_line) }
     ensures full { result ≡ Status.Full → (line : ℕ)
         × HadScript (S.left source.old) (IsRunTo line journal.new.history)
         × Wrote (K.told sink.old) (K.told sink.new) (K.faults sink.old) (K.faults sink.new) (full_line line) }
