@@ -1,11 +1,9 @@
 -- What the definitions say of an answer, where one node has the one segment.
-use Rattle.std.proofs.Common.{◌≡◌, ℕ, zero, suc, get_or, ◌+◌, ◌≤◌, ◌<◌, Bool, true, false, cond, not, ◌&&◌, ◌==◌, List, [], ◌∷◌, ◌++◌, length, drop, filter, Option, Some, None, is_none, refl, sym, ap, subst, ◌∙◌, arith, length-append, if◌then◌else◌, append-nil}
-use Rattle.std.proofs.Math.Seq.{drop-cons}
+use Rattle.std.proofs.Common.{◌≡◌, ℕ, zero, suc, get_or, ◌+◌, ◌≤◌, ◌<◌, true, false, cond, ◌&&◌, ◌==◌, List, [], ◌∷◌, length, drop, filter, Option, Some, None, refl, sym, ap, subst, ◌∙◌, arith, length-append, if◌then◌else◌, append-nil}
 use Rattle.std.specs.List.{flat_map}
 use Rattle.std.specs.FinMap as map_of
 use Rattle.grid_base.specs.declared.entry.Entry.{Entry}
 use Rattle.grid_event.specs.declared.event.AnswerEvent.{AnswerEvent}
-use Rattle.grid_event.specs.declared.outcome.Answer.{Answer}
 use Rattle.grid_event.specs.declared.outcome.Answer.TheVariants.{Count}
 use Rattle.grid_event.specs.declared.outcome.Outcome.TheVariants.{Value}
 use Rattle.grid_event.specs.declared.pipeline.End.{End}
@@ -15,8 +13,8 @@ use Rattle.cluster_core.specs.Served.{IsOne}
 use Rattle.cluster_core.proofs.OneNode.{segments_of-one}
 use Rattle.cluster_core.proofs.RoundLaws.{incomplete-one, left_of}
 use Rattle.cluster_model.specs.State.{Call, State, Unit, call_of}
-use Rattle.cluster_model.specs.Answers.{answered, can_answer, can_answer_call, end_of, evidence, is_that, outcome_of, pipe, same_outcome}
-use Rattle.cluster_model.specs.Calls.{can_go_on, incomplete, is_complete}
+use Rattle.cluster_model.specs.Answers.{answered, can_answer, can_answer_call, end_of, evidence, is_that, outcome_of, same_outcome}
+use Rattle.cluster_model.specs.Calls.{can_go_on, is_complete}
 use Rattle.cluster_model.specs.Units.{read_by}
 
 -- the entries of the ended units, one after another, are as many as they have read

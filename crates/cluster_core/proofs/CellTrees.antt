@@ -1,5 +1,5 @@
 -- The tree of the copies at node 0, in segment 0, is seen as a finite map of cells.
-use Rattle.std.proofs.Common.{◌≡◌, ℕ, T, true, false, ◌&&◌, Bool, List, [], ◌∷◌, map, refl, sym, ap, subst, ◌∙◌}
+use Rattle.std.proofs.Common.{◌≡◌, ℕ, T, List, [], ◌∷◌, map, refl, sym, ap, subst, ◌∙◌}
 use Rattle.std.specs.declared.cmp.Ordering.{Ordering}
 use Rattle.std.specs.declared.cmp.Ordering.TheVariants.{Less, Equal, Greater}
 use Rattle.std.specs.Cmp.Lexicographic.{slice_cmp}
@@ -10,7 +10,7 @@ use Rattle.std.specs.BTreeMap.{insert_entry}
 use Rattle.std.specs.FinMap as map_of
 use Rattle.std.specs.FinMap.Entries.{below_all, by_order, is_sorted, put}
 use Rattle.grid_base.specs.declared.stamped.Stamped.{Stamped}
-use Rattle.cluster_model.specs.Cells.{Cell, Copies, cell_cmp}
+use Rattle.cluster_model.specs.Cells.{cell_cmp}
 use Rattle.cluster_model.proofs.CellOrder.{cells_total}
 use Rattle.cluster_core.specs.Insides.{cell_of}
 use Rattle.cluster_core.proofs.Trees.{put-insert_entry, sorted_tree}

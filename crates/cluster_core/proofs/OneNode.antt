@@ -1,9 +1,8 @@
 -- What the definitions say of a cluster of one node and one segment.
-use Rattle.std.proofs.Common.{◌≡◌, ℕ, ◌≤◌, ◌<◌, ◌+◌, ◌%◌, Bool, true, false, not, ◌&&◌, ◌||◌, ◌==◌, nat_lt, nat_le, List, [], ◌∷◌, ◌++◌, length, min, filter, Option, Some, None, is_none, refl, sym, ap, subst, ◌∙◌, arith}
+use Rattle.std.proofs.Common.{◌≡◌, ℕ, ◌+◌, ◌%◌, Bool, true, false, ◌&&◌, ◌==◌, List, [], ◌∷◌, min, filter, Some, None, is_none, refl, sym, ap, ◌∙◌, arith}
 use Rattle.std.proofs.lemmas.Bool.Decides.{nat_tests}
 use Rattle.segment_hash.specs.declared.partition.Partition.{Partition}
 use Rattle.segment_hash.specs.declared.partition.Partition.TheVariants.{Plain, Grouped}
-use Rattle.segment_hash.specs.Segments.{segment_number}
 use Rattle.segment_hash.proofs.SegmentLaws.{segment_only}
 use Rattle.grid_event.specs.Configs.{is_config, is_up_to}
 use Rattle.grid_base.specs.declared.limits.TheConstants.{LAST_CALL}
@@ -12,7 +11,7 @@ use Rattle.grid_event.specs.declared.config.Config.{Config}
 use Rattle.grid_event.specs.declared.event.WriteEvent.{WriteEvent}
 use Rattle.cluster_core.specs.Served.{IsOne, is_plain, is_served}
 use Rattle.cluster_model.specs.State.{Call, State, call_of}
-use Rattle.cluster_model.specs.Owners.{below, first_owners, is_live, segment_of, segments_of, writers}
+use Rattle.cluster_model.specs.Owners.{first_owners, is_live, segment_of, segments_of, writers}
 use Rattle.cluster_model.specs.Calls.{can_go_on, can_invoke, invoked, is_request}
 use Rattle.cluster_model.specs.Writes.{can_reach, can_write, has_reader, is_deadline, is_of_kind, written, written_in}
 use Rattle.cluster_model.specs.Cells.{put_at}

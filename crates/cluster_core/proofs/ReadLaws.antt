@@ -1,5 +1,5 @@
 -- How many entries units have read.
-use Rattle.std.proofs.Common.{◌≡◌, ℕ, zero, suc, ap, Option, Some, ◌+◌, List, [], ◌∷◌, ◌++◌, length, arith}
+use Rattle.std.proofs.Common.{◌≡◌, ℕ, zero, suc, ap, Some, ◌+◌, List, [], ◌∷◌, ◌++◌, length, arith}
 use Rattle.std.specs.Prelude.{slice_get, slice_set, unwrap_or}
 use Rattle.cluster_model.specs.State.{Unit}
 use Rattle.cluster_model.specs.Units.{read_by}

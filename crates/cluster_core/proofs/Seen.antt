@@ -2,7 +2,6 @@
 use Rattle.std.proofs.Common.{◌≡◌, List, subst}
 use Rattle.std.specs.Ordering.{nat_cmp}
 use Rattle.std.specs.FinMap as map_of
-use Rattle.grid_event.specs.declared.config.Config.{Config}
 use Rattle.cluster_core.specs.Insides.{IsCore, state_of}
 use Rattle.cluster_core.specs.Served.{IsOne}
 use Rattle.cluster_core.specs.declared.cluster.Core.TheInside.{Inside}

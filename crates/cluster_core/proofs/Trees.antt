@@ -1,5 +1,5 @@
 -- A `BTreeMap` is seen as the finite map of its entries.
-use Rattle.std.proofs.Common.{◌≡◌, ℕ, T, true, false, ◌&&◌, Bool, cond, List, [], ◌∷◌, length, map, Option, refl, sym, ap, subst, ◌∙◌}
+use Rattle.std.proofs.Common.{◌≡◌, T, true, false, ◌&&◌, Bool, cond, List, [], ◌∷◌, length, refl, sym, ap, subst, ◌∙◌}
 use Rattle.std.specs.declared.cmp.Ordering.{Ordering}
 use Rattle.std.specs.declared.cmp.Ordering.TheVariants.{Less, Equal, Greater}
 use Rattle.std.specs.Cmp.{IsTotalOrder}

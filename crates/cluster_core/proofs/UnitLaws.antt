@@ -1,18 +1,17 @@
 -- What the definitions say of a unit, where one node has the one segment.
-use Rattle.std.proofs.Common.{◌≡◌, ℕ, ◌+◌, ◌-◌, ◌≤◌, ◌<◌, Bool, true, false, not, ◌&&◌, ◌==◌, nat_le, List, [], ◌∷◌, ◌++◌, length, Option, Some, None, is_some, refl, sym, ap, subst, ◌∙◌, arith, if◌then◌else◌}
+use Rattle.std.proofs.Common.{◌≡◌, ℕ, ◌+◌, ◌-◌, ◌≤◌, ◌<◌, Bool, true, false, ◌&&◌, ◌==◌, nat_le, ◌++◌, length, Option, Some, None, refl, sym, ◌∙◌, arith, if◌then◌else◌}
 use Rattle.std.proofs.lemmas.Bool.Decides.{nat_tests}
 use Rattle.std.proofs.lemmas.Option.{slice_get_within}
 use Rattle.std.specs.Prelude.{slice_get, slice_set}
-use Rattle.std.specs.List.{list_any}
 use Rattle.grid_base.specs.declared.limits.TheConstants.{MOST_READ}
 use Rattle.grid_event.specs.declared.event.ScanEvent.{ScanEvent}
 use Rattle.cluster_core.specs.Served.{IsOne}
 use Rattle.cluster_core.specs.Views.{IsHere}
-use Rattle.cluster_core.proofs.OneNode.{and_true, first_owners-any}
+use Rattle.cluster_core.proofs.OneNode.{first_owners-any}
 use Rattle.cluster_model.specs.State.{Ended, Running, State, Unit, call_of, is_asked, unit_of}
 use Rattle.cluster_model.specs.Same.{same_batch}
 use Rattle.cluster_model.specs.Calls.{can_go_on}
-use Rattle.cluster_model.specs.Units.{begun, can_begin, can_begin_unit, can_end, can_end_unit, can_read, can_scan, can_scan_unit, ended, next_of, reads, read_by, scanned}
+use Rattle.cluster_model.specs.Units.{begun, can_begin, can_begin_unit, can_end, can_end_unit, can_read, can_scan, can_scan_unit, ended, next_of, read_by, scanned}
 
 -- a unit of that number is there
 pub record IsThere (st : State) (number : ℕ) : Type 0 where

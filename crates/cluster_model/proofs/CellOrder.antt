@@ -1,5 +1,4 @@
 -- Cells are totally ordered.
-use Rattle.std.specs.Ordering.{nat_cmp}
 use Rattle.std.specs.Cmp.{IsTotalOrder, nat_cmp_total, on_total, then_total}
 use Rattle.std.specs.Cmp.Lexicographic.{nat_list_cmp_total}
 use Rattle.cluster_model.specs.Cells.{Cell, cell_cmp}

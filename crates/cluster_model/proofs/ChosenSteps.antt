@@ -1,5 +1,5 @@
 -- The event that a command chooses may happen.
-use Rattle.std.proofs.Common.{◌≡◌, ℕ, ◌+◌, Bool, true, false, List, [], ◌∷◌, Option, None, Some, refl, sym, ap, subst, ◌∙◌, if◌then◌else◌, unwrap_or}
+use Rattle.std.proofs.Common.{◌≡◌, ℕ, ◌+◌, Bool, true, false, List, [], ◌∷◌, Option, None, Some, refl, sym, ap, ◌∙◌, if◌then◌else◌, unwrap_or}
 use Rattle.grid_event.specs.declared.command.Command.{Command}
 use Rattle.grid_event.specs.declared.command.Command.TheVariants.{Put, Call, Drive}
 use Rattle.grid_event.specs.declared.event.Event.{Event}
@@ -44,8 +44,8 @@ scan_may st number (Some unit) = if_allowed_may st (events.Scan (record { unit =
 unit_may : (st : State) (number : ℕ) → MayHappen st (unit_event st number)
 unit_may st number =
     or_else_may st (if_allowed st (events.Done number)) (or_else (scan_event st number (unit_of st number)) (if_allowed st (events.Begin number true)))
-        (if_allowed_may st (events.Done number))
-        (or_else_may st (scan_event st number (unit_of st number)) (if_allowed st (events.Begin number true)) (scan_may st number (unit_of st number)) (if_allowed_may st (events.Begin number true)))
+    (if_allowed_may st (events.Done number))
+    (or_else_may st (scan_event st number (unit_of st number)) (if_allowed st (events.Begin number true)) (scan_may st number (unit_of st number)) (if_allowed_may st (events.Begin number true)))
 
 answer_with_may : (st : State) (number : ℕ) (outcome : Option Outcome) → MayHappen st (answer_with st number outcome)
 answer_with_may st number None = none_may st
@@ -59,18 +59,18 @@ round_may : (st : State) (number : ℕ) (call : Option states.Call) → MayHappe
 round_may st number None = none_may st
 round_may st number (Some call) =
     if_allowed_may st
-        (events.Round (record { call = number; id = installed_id st call.originator; asks = asks_of st number call }))
+    (events.Round (record { call = number; id = installed_id st call.originator; asks = asks_of st number call }))
 
 pub chosen_may : (st : State) (command : Command) → MayHappen st (chosen st command)
 chosen_may st (Put by_ node key datum lifespan) =
     if_allowed_may st
-        (events.Write
-            (record { by = by_; node = node; key = key; value = datum; until = option_map (λ ticks. st.clock + ticks) lifespan }))
+    (events.Write
+    (record { by = by_; node = node; key = key; value = datum; until = option_map (λ ticks. st.clock + ticks) lifespan }))
 chosen_may st (Call by_ call node request) =
     if_allowed_may st (events.Invoke (record { by = by_; call = call; node = node; request = request }))
 chosen_may st (Drive call) =
     or_else_may st (answer_event st call (call_of st call)) (or_else (first_some (unit_event st) (open_units st call)) (round_event st call (call_of st call)))
-        (answer_may st call (call_of st call))
-        (or_else_may st (first_some (unit_event st) (open_units st call)) (round_event st call (call_of st call))
-            (first_some_may st (unit_event st) (unit_may st) (open_units st call))
-            (round_may st call (call_of st call)))
+    (answer_may st call (call_of st call))
+    (or_else_may st (first_some (unit_event st) (open_units st call)) (round_event st call (call_of st call))
+    (first_some_may st (unit_event st) (unit_may st) (open_units st call))
+    (round_may st call (call_of st call)))

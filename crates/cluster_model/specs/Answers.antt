@@ -1,5 +1,5 @@
 -- How a call is answered.
-use Rattle.std.specs.Prelude.{ℕ, ◌==◌, Bool, true, false, ◌&&◌, if◌then◌else◌, List, length, filter, Option, None, Some}
+use Rattle.std.specs.Prelude.{ℕ, ◌==◌, Bool, false, ◌&&◌, if◌then◌else◌, List, length, filter, Option, None, Some}
 use Rattle.std.specs.List.{flat_map}
 use Rattle.std.specs.FinMap as map_of
 use Rattle.std.specs.Ordering.{nat_cmp}

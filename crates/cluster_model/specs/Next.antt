@@ -1,14 +1,12 @@
 -- The next entries of a scan. A node with an even number reads its keys in ascending order of bytes, one
 -- with an odd number in descending order.
 use Rattle.std.specs.Option.{option_map}
-use Rattle.std.specs.Prelude.{ℕ, ◌-◌, ◌%◌, slice_get, ◌==◌, Bool, true, false, nat_le, if◌then◌else◌, List, map, filter, take, reverse, length, Option, None, Some}
+use Rattle.std.specs.Prelude.{ℕ, ◌-◌, ◌%◌, slice_get, ◌==◌, Bool, true, nat_le, if◌then◌else◌, List, map, filter, take, reverse, length, Option, None, Some}
 use Rattle.std.specs.Ordering.{nat_cmp, is_lt, is_gt}
 use Rattle.std.specs.Cmp.Lexicographic.{slice_cmp}
 use Rattle.grid_base.specs.declared.entry.Entry.{Entry}
 use Rattle.grid_base.specs.declared.stamped.Stamped.{Stamped}
 use Rattle.grid_base.specs.Portion.{Portion}
-use Rattle.cluster_model.specs.Cells.{part_of}
-use Rattle.cluster_model.specs.State.{State}
 
 -- the node scans upwards
 abbrev pub scans_up : ℕ → Bool

@@ -1,7 +1,6 @@
 -- Which nodes live, which segment a key is in, and which nodes own a segment. The first topology is in
 -- force at every node from the start to the end.
-use Rattle.std.specs.Prelude.{ℕ, ◌+◌, ◌%◌, min, suc, zero, Bool, nat_lt, List, [], ◌∷◌, ◌++◌, map, find, filter, Option}
-use Rattle.std.specs.List.{list_any}
+use Rattle.std.specs.Prelude.{ℕ, ◌+◌, ◌%◌, min, suc, zero, Bool, nat_lt, List, [], ◌∷◌, ◌++◌, map, find, Option}
 use Rattle.grid_event.specs.declared.config.Config.{Config}
 use Rattle.segment_hash.specs.Segments.{segment_number}
 use Rattle.cluster_model.specs.State.{State}

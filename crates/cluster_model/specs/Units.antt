@@ -1,5 +1,5 @@
 -- What becomes of a unit: it begins, it reads, it is done.
-use Rattle.std.specs.Prelude.{ℕ, ◌+◌, ◌-◌, ◌==◌, Bool, true, false, not, nat_le, ◌&&◌, List, [], ◌∷◌, ◌++◌, length, slice_set, Option, None, Some}
+use Rattle.std.specs.Prelude.{ℕ, ◌+◌, ◌-◌, ◌==◌, Bool, false, not, nat_le, ◌&&◌, List, [], ◌∷◌, ◌++◌, length, slice_set, Option, None, Some}
 use Rattle.std.specs.List.{list_any}
 use Rattle.grid_base.specs.declared.limits.TheConstants.{MOST_READ}
 use Rattle.grid_base.specs.declared.entry.Entry.{Entry}

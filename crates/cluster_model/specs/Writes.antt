@@ -1,5 +1,5 @@
 -- A write.
-use Rattle.std.specs.Prelude.{ℕ, ◌+◌, Bool, true, false, nat_lt, nat_le, ◌&&◌, List, filter, Option, None, Some}
+use Rattle.std.specs.Prelude.{ℕ, ◌+◌, Bool, true, false, nat_lt, nat_le, ◌&&◌, filter, Option, None, Some}
 use Rattle.std.specs.List.{list_any}
 use Rattle.grid_base.specs.declared.limits.TheConstants.{LONGEST_LIFESPAN}
 use Rattle.grid_base.specs.declared.datum.Datum.{Datum}

@@ -2,9 +2,8 @@
 
 use grid_base::{NoMemory, Text, TextFault};
 use std::alloc::Global;
-use std::env;
-use std::io;
 use std::rt::Env;
+use std::{env, io};
 
 /// The arguments after the program's name. Where one of them isn't a text, there is one empty text
 /// in place of them all, which stands for no command. The only failure is that memory runs out.

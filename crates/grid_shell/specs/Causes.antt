@@ -1,14 +1,12 @@
 -- Of what each status is the answer: the script that the source had, and the run of that script.
-use Rattle.std.specs.Prelude.{◌≡◌, ◌<◌, ◌≤◌, ◌⊎◌, ℕ, List, length, Option, None, Some, IfSome}
+use Rattle.std.specs.Prelude.{◌≡◌, ◌<◌, ◌≤◌, ℕ, List, length, Option, None, Some, IfSome}
 use Rattle.std.specs.Io.KnownBytes.{Consumes}
 use Rattle.grid_base.specs.declared.limits.TheConstants.{LONGEST_SCRIPT}
-use Rattle.grid_event.specs.Histories.{History, blank}
-use Rattle.grid_io.specs.Count.{Rose}
-use Rattle.grid_io.specs.Written.{Wrote}
+use Rattle.grid_event.specs.Histories.{History}
 use Rattle.grid_script.specs.Scripts.{IsScript, Script, StandsFor, script_text}
 use Rattle.step_run.specs.Outcomes.{IsFront}
 use Rattle.step_run.specs.StepRuns.{run_of}
-use Rattle.grid_shell.specs.Lines.{AreServed, not_yet_line, too_long_line}
+use Rattle.grid_shell.specs.Lines.{AreServed}
 
 -- the bytes are all that the source had left, where it tells them, and not too many
 abbrev pub IsAll : Option (List ℕ) → List ℕ → Type 0

@@ -1,14 +1,13 @@
 -- What is repeated ends.
-use Rattle.std.proofs.Common.{◌≡◌, ℕ, zero, suc, ◌+◌, ◌≤◌, ◌<◌, Bool, true, false, List, ◌∷◌, [], ◌++◌, length, Option, None, Some, is_some, refl, sym, ap, subst, ◌∙◌, arith, if◌then◌else◌, ◌⊎◌, inl, inr, length-append, ◌||◌, nat_le, nat_lt}
+use Rattle.std.proofs.Common.{◌≡◌, ℕ, zero, suc, ◌+◌, ◌≤◌, ◌<◌, Bool, true, false, ◌∷◌, [], length, Option, None, Some, is_some, refl, arith, if◌then◌else◌, ◌⊎◌, inl, inr, length-append}
 use Rattle.std.proofs.lemmas.Bool.Decides.{nat_tests}
-use Rattle.grid_base.specs.declared.limits.TheConstants.{MOST_EVENTS, MOST_WEIGHT}
+use Rattle.grid_base.specs.declared.limits.TheConstants.{MOST_EVENTS}
 use Rattle.grid_event.specs.declared.command.Command.{Command}
 use Rattle.grid_event.specs.declared.event.Event.{Event}
 use Rattle.grid_event.specs.Histories.{History, passes_limit, with_event}
-use Rattle.grid_event.specs.Weights.{total_weight, weight_of}
 use Rattle.cluster_model.specs.Commands.{chosen}
 use Rattle.cluster_model.specs.Step.{changed}
-use Rattle.step_run.specs.StepRuns.{ENOUGH, Progress, by_event, going, repeated, with_event_at}
+use Rattle.step_run.specs.StepRuns.{Progress, by_event, repeated, with_event_at}
 
 -- the run has stopped, or the command has no event
 abbrev HasEnded : Command → Progress → Type 0

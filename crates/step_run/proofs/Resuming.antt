@@ -1,12 +1,12 @@
 -- A step of what is repeated, and the rest of it.
-use Rattle.std.proofs.Common.{◌≡◌, ℕ, zero, suc, ◌+◌, ◌-◌, ◌<◌, ◌≤◌, Bool, true, false, Option, None, Some, is_some, refl, sym, ap, subst, ◌∙◌, arith, if◌then◌else◌}
+use Rattle.std.proofs.Common.{◌≡◌, ℕ, zero, suc, ◌+◌, ◌-◌, ◌<◌, Bool, true, false, Option, None, Some, is_some, refl, sym, ap, subst, ◌∙◌, arith, if◌then◌else◌}
 use Rattle.grid_event.specs.declared.command.Command.{Command}
 use Rattle.grid_event.specs.declared.command.Command.TheVariants.{Drive}
 use Rattle.grid_event.specs.declared.event.Event.{Event}
 use Rattle.grid_event.specs.Histories.{History, with_idle}
 use Rattle.cluster_model.specs.Commands.{chosen}
 use Rattle.cluster_model.specs.State.{State}
-use Rattle.step_run.specs.Outcomes.{IsFront, LeavesAt, running}
+use Rattle.step_run.specs.Outcomes.{LeavesAt, running}
 use Rattle.step_run.specs.StepRuns.{ENOUGH, Progress, all_finished, by_event, going, noted, repeated, with_event_at}
 use Rattle.step_run.specs.declared.run_fault.RunFault.{RunFault}
 use Rattle.step_run.specs.declared.run_fault.RunFault.TheVariants.{Full, NoMemory}

@@ -1,5 +1,5 @@
 -- As many as asked for were read, and one more is there.
-use Rattle.std.proofs.Common.{◌≡◌, ◌++◌, ◌+◌, ap, sym, ◌∙◌, length, map, ◌∷◌}
+use Rattle.std.proofs.Common.{◌++◌, ap, sym, ◌∙◌, map}
 use Rattle.cluster_core.proofs.NextLaws.{first_batch-cut}
 use Rattle.cluster_core.proofs.next.first_batch.Goals as goal
 use Rattle.cluster_model.specs.Next.{plain_entry}

@@ -1,6 +1,5 @@
 -- Each time the journal gets an event, and it has room for so many.
-use Rattle.std.proofs.Common.{◌<◌, ◌≤◌, ◌+◌, length, arith}
-use Rattle.grid_base.specs.declared.limits.TheConstants.{MOST_EVENTS}
+use Rattle.std.proofs.Common.{arith}
 use Rattle.step_run.specs.StepRuns.{ENOUGH}
 use Rattle.step_run.proofs.Endings.{ends}
 use Rattle.step_run.proofs.laws.repeating_ends.Goals as goal

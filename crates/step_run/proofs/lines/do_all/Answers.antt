@@ -1,10 +1,9 @@
 -- The line's first event and those that follow it, or its note.
-use Rattle.std.proofs.Common.{◌≡◌, true, false, ap, sym, subst, ◌∙◌}
 use Rattle.cluster_model.specs.Commands.{chosen}
-use Rattle.step_run.specs.Outcomes.{Leaves, running}
-use Rattle.step_run.specs.StepRuns.{ENOUGH, Progress, noted, repeated}
+use Rattle.step_run.specs.Outcomes.{running}
+use Rattle.step_run.specs.StepRuns.{ENOUGH, noted, repeated}
 use Rattle.step_run.proofs.Fronts.{repeated-grows}
-use Rattle.step_run.proofs.Resuming.{by_event-fault, by_event-idle, by_event-rest}
+use Rattle.step_run.proofs.Resuming.{by_event-fault}
 use Rattle.step_run.proofs.lines.do_all.Goals as goal
 
 pub returns-in-Err-clause-leaves : goal.returns-in-Err-clause-leaves

@@ -1,5 +1,5 @@
 -- The line's event, or its note.
-use Rattle.std.proofs.Common.{◌≡◌, true, false, refl, ap, sym, subst, ◌∙◌}
+use Rattle.std.proofs.Common.{refl, ap, sym, subst, ◌∙◌}
 use Rattle.grid_event.specs.Histories.{History}
 use Rattle.cluster_model.specs.Commands.{chosen}
 use Rattle.step_run.specs.Outcomes.{IsFront, running}

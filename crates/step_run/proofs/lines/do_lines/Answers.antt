@@ -1,5 +1,5 @@
 -- Each line is done, and then the others.
-use Rattle.std.proofs.Common.{◌≡◌, ◌<◌, List, length, ap, sym, subst, ◌∙◌, drop, ◌∷◌, ◌+◌, suc, get_or, arith}
+use Rattle.std.proofs.Common.{◌<◌, List, length, ap, sym, subst, ◌∙◌, drop, ◌∷◌, suc, arith}
 use Rattle.std.proofs.Math.Seq.{drop-cons}
 use Rattle.grid_script.specs.declared.step_line.StepLine.{StepLine}
 use Rattle.step_run.specs.Outcomes.{LeavesAt, running}

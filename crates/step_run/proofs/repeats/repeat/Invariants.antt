@@ -1,5 +1,5 @@
 -- What is left to repeat is what there was to repeat.
-use Rattle.std.proofs.Common.{◌≡◌, ◌-◌, IsSome}
+use Rattle.std.proofs.Common.{◌≡◌, ◌-◌}
 use Rattle.step_run.specs.Outcomes.{running}
 use Rattle.step_run.specs.StepRuns.{ENOUGH, repeated}
 use Rattle.step_run.proofs.repeats.repeat.Given as goal

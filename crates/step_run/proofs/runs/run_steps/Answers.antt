@@ -1,5 +1,5 @@
 -- The run is that of the lines, and then of all calls.
-use Rattle.std.proofs.Common.{◌≡◌, refl, ap, sym, subst, ◌∙◌, Err, Ok}
+use Rattle.std.proofs.Common.{refl, sym, subst, ◌∙◌, Err}
 use Rattle.grid_base.specs.declared.limits.TheConstants.{LAST_CALL}
 use Rattle.step_run.specs.Outcomes.{Leaves, LeavesAt, running}
 use Rattle.step_run.specs.StepRuns.{Progress, after_lines, all_finished, begin, run_of}

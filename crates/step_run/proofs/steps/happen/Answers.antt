@@ -1,10 +1,8 @@
 -- The event has room, or the journal is full.
-use Rattle.std.proofs.Common.{◌≡◌, Bool, true, false, Some, Err, ap, sym, subst, ◌∙◌}
+use Rattle.std.proofs.Common.{Some, Err, ap, sym, subst, ◌∙◌}
 use Rattle.grid_event.specs.Histories.{History, passes_limit, with_event}
-use Rattle.cluster_model.specs.State.{State}
-use Rattle.cluster_model.specs.Step.{changed}
 use Rattle.step_run.specs.Outcomes.{IsFront, running}
-use Rattle.step_run.specs.StepRuns.{Progress, with_event_at}
+use Rattle.step_run.specs.StepRuns.{with_event_at}
 use Rattle.step_run.proofs.Fronts.{not_true, on_err, on_ok, same_running, with_event_at-full, with_event_at-grows, with_event_at-room}
 use Rattle.step_run.proofs.steps.happen.Goals as goal
 

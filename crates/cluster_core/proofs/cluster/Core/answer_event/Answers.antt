@@ -1,5 +1,5 @@
 -- A call that goes on and is complete has the count of its evidence.
-use Rattle.std.proofs.Common.{◌≡◌, ℕ, Some, true, false, ap, ◌∙◌}
+use Rattle.std.proofs.Common.{ℕ, Some, true, false, ap, ◌∙◌}
 use Rattle.grid_event.specs.declared.event.AnswerEvent.{AnswerEvent}
 use Rattle.grid_event.specs.declared.event.Event.TheVariants as events
 use Rattle.grid_event.specs.declared.outcome.Answer.TheVariants.{Count}
@@ -7,8 +7,7 @@ use Rattle.grid_event.specs.declared.outcome.Outcome.TheVariants.{Value}
 use Rattle.cluster_core.proofs.ChoiceLaws.{answer_event-one}
 use Rattle.cluster_core.proofs.Seen.{one_seen}
 use Rattle.cluster_core.proofs.cluster.Core.answer_event.Goals as goal
-use Rattle.cluster_model.specs.Calls.{can_go_on, is_complete}
-use Rattle.cluster_model.specs.State.{call_of}
+use Rattle.cluster_model.specs.Calls.{is_complete}
 
 pub returns-then-not-can_go_on : goal.returns-then-not-can_go_on
 returns-then-not-can_go_on c =

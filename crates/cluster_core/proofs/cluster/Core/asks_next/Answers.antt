@@ -1,5 +1,5 @@
 -- More asks than one are not the next ones.
-use Rattle.std.proofs.Common.{◌≡◌, ◌==◌, ◌∙◌, sym}
+use Rattle.std.proofs.Common.{◌==◌, ◌∙◌, sym}
 use Rattle.cluster_core.specs.Rounds.{ask_here}
 use Rattle.cluster_core.proofs.RoundLaws.{more_asks}
 use Rattle.cluster_core.proofs.cluster.Core.asks_next.Goals as goal

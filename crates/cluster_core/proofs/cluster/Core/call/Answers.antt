@@ -1,7 +1,6 @@
 -- The tree of calls is the state's map of calls.
 use Rattle.std.proofs.Common.{ap, sym, ◌∙◌}
 use Rattle.std.specs.Ordering.{nat_cmp}
-use Rattle.std.specs.BTreeMap.{get_by}
 use Rattle.cluster_core.proofs.Seen.{one_seen}
 use Rattle.cluster_core.proofs.Trees.{get-tree}
 use Rattle.cluster_core.proofs.cluster.Core.call.Goals as goal

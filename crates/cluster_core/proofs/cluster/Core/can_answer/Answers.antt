@@ -1,5 +1,5 @@
 -- The row says the same of a cluster of one node.
-use Rattle.std.proofs.Common.{◌≡◌, ap, sym, ◌∙◌, ◌&&◌, ◌==◌, length, true, false}
+use Rattle.std.proofs.Common.{ap, sym, ◌∙◌, ◌&&◌, length}
 use Rattle.grid_event.specs.declared.outcome.Answer.TheVariants.{Count}
 use Rattle.grid_event.specs.declared.outcome.Outcome.TheVariants.{Value}
 use Rattle.cluster_core.proofs.AnswerLaws.{can_answer-one}

@@ -1,5 +1,5 @@
 -- The units count what the evidence holds.
-use Rattle.std.proofs.Common.{◌≡◌, ap, sym, ◌∙◌, length}
+use Rattle.std.proofs.Common.{ap, sym, ◌∙◌, length}
 use Rattle.cluster_core.specs.Insides.{state_of}
 use Rattle.cluster_core.specs.Evidence.{read_for}
 use Rattle.cluster_core.proofs.AnswerLaws.{evidence-one}

@@ -1,8 +1,6 @@
 -- The unit at its place has ended.
-use Rattle.std.proofs.Common.{◌≡◌, true, ap, sym, ◌∙◌, subst, ◌+◌, ◌-◌, ◌<◌, ◌≤◌, length, arith}
-use Rattle.std.specs.Vec.{with_item}
-use Rattle.std.specs.Prelude.{slice_set}
-use Rattle.cluster_core.specs.Insides.{IsCore, state_of}
+use Rattle.std.proofs.Common.{◌≡◌, true, ap, sym, ◌∙◌, subst, length, arith}
+use Rattle.cluster_core.specs.Insides.{state_of}
 use Rattle.cluster_core.proofs.UnitLaws.{end_there, ended-there}
 use Rattle.cluster_core.proofs.UnitWrites.{core_with, read_there, state_with}
 use Rattle.cluster_core.proofs.cluster.Core.end.Goals as goal

@@ -2,7 +2,6 @@
 use Rattle.std.proofs.Common.{◌≡◌, IfOk, ap, sym, subst, ◌∙◌}
 use Rattle.grid_base.specs.Portion.{Portion}
 use Rattle.grid_base.specs.declared.entry.Entry.{Entry}
-use Rattle.cluster_core.specs.Insides.{state_of}
 use Rattle.cluster_core.proofs.NextLaws.{next_of-here}
 use Rattle.cluster_core.proofs.cluster.Core.next.Goals as goal
 use Rattle.cluster_model.specs.State.{State, call_of}

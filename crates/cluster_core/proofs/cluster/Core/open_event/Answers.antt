@@ -1,5 +1,5 @@
 -- The units are looked at in their order.
-use Rattle.std.proofs.Common.{◌≡◌, ◌≤◌, ◌<◌, ◌+◌, length, drop, ap, sym, ◌∙◌, arith}
+use Rattle.std.proofs.Common.{◌≤◌, ◌<◌, ◌+◌, length, drop, ap, sym, ◌∙◌, arith}
 use Rattle.std.proofs.Common.{Option}
 use Rattle.grid_event.specs.declared.event.Event.{Event}
 use Rattle.cluster_core.proofs.ChoiceLaws.{found_first, none_first, open_on-end, open_on-place, open_units-one}

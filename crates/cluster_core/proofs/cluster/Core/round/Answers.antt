@@ -1,8 +1,7 @@
 -- The round is that of a cluster of one node.
-use Rattle.std.proofs.Common.{◌≡◌, true, Some, ap, sym, ◌∙◌, subst, ◌++◌, ◌∷◌, [], ◌+◌, ◌<◌, length, length-append, arith}
+use Rattle.std.proofs.Common.{◌≡◌, true, Some, ap, sym, ◌∙◌, subst, ◌++◌, ◌∷◌, [], length, length-append, arith}
 use Rattle.std.specs.Ordering.{nat_cmp}
 use Rattle.std.specs.Cmp.{nat_cmp_total}
-use Rattle.std.specs.FinMap as map_of
 use Rattle.cluster_core.specs.Insides.{state_of}
 use Rattle.cluster_core.proofs.ReadLaws.{read_by-push}
 use Rattle.cluster_core.proofs.RoundLaws.{may_round, no_round, rounded-one}

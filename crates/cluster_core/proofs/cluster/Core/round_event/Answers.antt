@@ -1,9 +1,9 @@
 -- A call that is due has its next round.
-use Rattle.std.proofs.Common.{◌≡◌, ℕ, Some, List, [], ◌∷◌, true, false, ap, ◌∙◌}
+use Rattle.std.proofs.Common.{ℕ, Some, List, [], ◌∷◌, ap, ◌∙◌}
 use Rattle.grid_event.specs.declared.event.Ask.{Ask}
 use Rattle.grid_event.specs.declared.event.RoundEvent.{RoundEvent}
 use Rattle.grid_event.specs.declared.event.Event.TheVariants as events
-use Rattle.cluster_core.proofs.ChoiceLaws.{round_event-due, round_event-none, round_event-not}
+use Rattle.cluster_core.proofs.ChoiceLaws.{round_event-due, round_event-not}
 use Rattle.cluster_core.proofs.cluster.Core.round_event.Goals as goal
 
 pub returns-then-not-is_due : goal.returns-then-not-is_due

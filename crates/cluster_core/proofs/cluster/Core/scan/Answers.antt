@@ -1,9 +1,8 @@
 -- The unit at its place has read the batch.
-use Rattle.std.proofs.Common.{◌≡◌, true, ap, sym, ◌∙◌, subst, ◌+◌, ◌-◌, ◌<◌, ◌≤◌, ◌++◌, length, length-append, arith}
-use Rattle.std.specs.Prelude.{slice_set}
+use Rattle.std.proofs.Common.{◌≡◌, true, ap, sym, ◌∙◌, subst, ◌+◌, ◌++◌, length, length-append, arith}
 use Rattle.grid_base.specs.Portion.{Portion}
 use Rattle.grid_base.specs.declared.entry.Entry.{Entry}
-use Rattle.cluster_core.specs.Insides.{IsCore, state_of}
+use Rattle.cluster_core.specs.Insides.{state_of}
 use Rattle.cluster_core.proofs.UnitLaws.{scan_room, scan_there, scanned-there}
 use Rattle.cluster_core.proofs.UnitWrites.{core_with, read_there, state_with}
 use Rattle.cluster_core.proofs.cluster.Core.scan.Goals as goal

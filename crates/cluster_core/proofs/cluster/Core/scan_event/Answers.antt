@@ -1,5 +1,5 @@
 -- A unit that may read on has its next scan, where there is room for it.
-use Rattle.std.proofs.Common.{◌≡◌, Some, true, false, ap, sym, ◌∙◌, ◌+◌, length, nat_le}
+use Rattle.std.proofs.Common.{Some, true, false, ap, ◌∙◌, ◌+◌, length, nat_le}
 use Rattle.grid_base.specs.Portion.{Portion}
 use Rattle.grid_base.specs.declared.entry.Entry.{Entry}
 use Rattle.grid_base.specs.declared.limits.TheConstants.{MOST_READ}

@@ -1,5 +1,5 @@
 -- A part of the count is no more than the whole, which fits.
-use Rattle.std.proofs.Common.{◌≡◌, ◌≤◌, ◌+◌, length, ap, drop, arith}
+use Rattle.std.proofs.Common.{length, ap, arith}
 use Rattle.cluster_core.proofs.AnswerLaws.{read_for-here, read_for-le}
 use Rattle.cluster_core.proofs.cluster.answers.count_for.Goals as goal
 

@@ -1,5 +1,5 @@
 -- The journal keeps its limits, as the event did not pass one.
-use Rattle.std.proofs.Common.{◌≡◌, ◌≤◌, ◌+◌, length, ap, sym, ◌∙◌, subst, arith, length-append, false}
+use Rattle.std.proofs.Common.{◌≡◌, length, ap, sym, ◌∙◌, subst, arith, length-append, false}
 use Rattle.grid_event.specs.Histories.{Kept, passes_limit}
 use Rattle.grid_event.specs.Insides.{kept_of}
 use Rattle.grid_event.specs.Weights.{total_weight}
