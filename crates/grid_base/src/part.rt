@@ -49,13 +49,14 @@ pub trait Part: Drop + Sized {
 
     ghost right_unit: { (a : Self) → joined (plain a) nothing ≡ plain a };
 
-    // Of three parts that fit one another, two that are joined fit the third.
-    ghost joined_fits: { (a b c : Self) → fitting a b ≡ true → fitting a c ≡ true → fitting b c ≡ true → fitting (joined a b) c ≡ true };
+    // Where a part fits a second and their join fits a third, the second fits the third and the
+    // first fits the join of those two; and the same from behind.
+    ghost fits_front: { (a b c : Self) → fitting a b ≡ true → fitting (joined a b) c ≡ true → (fitting b c ≡ true) × (fitting a (joined b c) ≡ true) };
 
-    ghost fits_joined: { (a b c : Self) → fitting a b ≡ true → fitting a c ≡ true → fitting b c ≡ true → fitting a (joined b c) ≡ true };
+    ghost fits_behind: { (a b c : Self) → fitting b c ≡ true → fitting a (joined b c) ≡ true → (fitting a b ≡ true) × (fitting (joined a b) c ≡ true) };
 
     // It doesn't matter which two are joined first.
-    ghost associates: { (a b c : Self) → fitting a b ≡ true → fitting a c ≡ true → fitting b c ≡ true → joined (joined a b) c ≡ joined a (joined b c) };
+    ghost associates: { (a b c : Self) → fitting a b ≡ true → fitting (joined a b) c ≡ true → joined (joined a b) c ≡ joined a (joined b c) };
 }
 
 #[cfg(test)]

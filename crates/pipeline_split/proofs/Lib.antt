@@ -1,4 +1,2 @@
 pub mod SplitLaws
-pub mod PieceLaws
-pub mod FitLaws
 pub mod SoundLaws

@@ -31,7 +31,7 @@ use Rattle.pipeline_eval.specs.Lists.{distinct, words, least, greatest, either_b
 use Rattle.pipeline_eval.specs.Pipes.{spread_items, op_items, ops_items, as_items, pipe_items}
 use Rattle.pipeline_split.specs.Halves.{is_distinct, before_distinct, remote_of}
 use Rattle.pipeline_split.specs.Pieces.{kept_by, piece, fitting, comparable}
-use Rattle.pipeline_split.proofs.FitLaws.{Chooses, least_chooses, greatest_chooses}
+use Rattle.pipeline_split.specs.FitLaws.{Chooses, least_chooses, greatest_chooses}
 use Rattle.pipeline_split.proofs.SplitLaws.{none_before}
 use Rattle.pipeline_split.specs.Typed.{IsOfKind, AreOfKind, HaveValuesOf}
 

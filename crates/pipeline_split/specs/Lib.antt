@@ -1,3 +1,5 @@
+pub mod FitLaws
 pub mod Halves
+pub mod PieceLaws
 pub mod Pieces
 pub mod Typed

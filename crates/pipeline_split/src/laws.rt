@@ -35,7 +35,7 @@ pub fn pieces_join_in_any_groups(a: &Piece, b: &Piece, c: &Piece)
 {}
 
 /// Nothing fits each piece on both sides, and changes none.
-#[tactic(auto, using(crate::proofs::PieceLaws::fitting_nothing, crate::proofs::PieceLaws::joined_nothing))]
+#[tactic(auto, using(crate::specs::PieceLaws::fitting_nothing, crate::specs::PieceLaws::joined_nothing))]
 pub fn nothing_changes_no_piece(a: &Piece)
     ensures fits_before { fitting Piece.Nothing a.now ≡ true }
     ensures fits_behind { fitting a.now Piece.Nothing ≡ true }

@@ -7,6 +7,7 @@ mod elements;
 mod evaluation;
 mod halves;
 mod laws;
+mod part;
 mod piece;
 
 pub use elements::Elements;

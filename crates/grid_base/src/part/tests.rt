@@ -46,9 +46,9 @@ impl Part for AllUp {
 
     ghost right_unit = { Prim.search rules };
 
-    ghost joined_fits = { Prim.search rules };
+    ghost fits_front = { Prim.search rules };
 
-    ghost fits_joined = { Prim.search rules };
+    ghost fits_behind = { Prim.search rules };
 
     ghost associates = { Prim.search rules };
 }
@@ -56,8 +56,7 @@ impl Part for AllUp {
 /// Joins the last two first: the outcome is as if the first two had been.
 fn join_from_behind<P: Part>(mut a: P, mut b: P, c: P) -> Result<P, NoMemory>
     requires first_second { P.fitting (P.plain a) (P.plain b) ≡ true }
-    requires first_third { P.fitting (P.plain a) (P.plain c) ≡ true }
-    requires second_third { P.fitting (P.plain b) (P.plain c) ≡ true }
+    requires both_third { P.fitting (P.joined (P.plain a) (P.plain b)) (P.plain c) ≡ true }
     ensures { IfOk result (λ all. P.plain all ≡ P.joined (P.joined (P.plain a) (P.plain b)) (P.plain c)) }
 {
     b.join(c)?;

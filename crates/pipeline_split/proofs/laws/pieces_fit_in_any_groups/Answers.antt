@@ -1,4 +1,4 @@
-use Rattle.pipeline_split.proofs.FitLaws.{fits_front}
+use Rattle.pipeline_split.specs.FitLaws.{fits_front}
 use Rattle.pipeline_split.proofs.laws.pieces_fit_in_any_groups.Goals as goal
 
 pub returns-clause-behind : goal.returns-clause-behind

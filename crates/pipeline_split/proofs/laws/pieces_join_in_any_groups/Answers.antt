@@ -1,4 +1,4 @@
-use Rattle.pipeline_split.proofs.PieceLaws.{joined-assoc}
+use Rattle.pipeline_split.specs.PieceLaws.{joined-assoc}
 use Rattle.pipeline_split.proofs.laws.pieces_join_in_any_groups.Goals as goal
 
 pub returns : goal.returns
