@@ -8,6 +8,8 @@ mod cluster;
 mod matches;
 mod next;
 mod stage;
+#[cfg(test)]
+mod tests;
 mod unit;
 
 pub use apply_fault::ApplyFault;

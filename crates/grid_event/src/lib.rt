@@ -11,6 +11,8 @@ mod outcome;
 mod pipeline;
 mod push_fault;
 mod request;
+#[cfg(test)]
+mod tests;
 mod value_kind;
 
 pub use command::Command;
