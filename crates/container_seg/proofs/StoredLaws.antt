@@ -313,3 +313,34 @@ part_entries-left_of clock parts s =
     ∙ get-left_of clock parts s k
     ∙ ap (left clock) (maps.get-entries (part_at parts s) k)
     ∙ sym (find_fresh clock k (maps.entries (part_at parts s)) (maps.entries_sorted (part_at parts s))))
+
+-- ---- the entries of a segment, copied one after another
+
+-- a part with these entries put into it in turn
+abbrev pub with_all : List (List ℕ × Stamped) → Part → Part
+with_all [] m = m
+with_all (e ∷ es) m = with_all es (maps.insert m e.0 e.1)
+
+-- a key that stands in front stands nowhere else
+front_first : (e : List ℕ × Stamped) (es : List (List ℕ × Stamped)) (q : List ℕ) (o : Option Stamped) → T (below_all key_cmp e.0 es)
+    → or_else (maps.find key_cmp q es) (cond (eq_by_cmp key_cmp q e.0) (Some e.1) o) ≡ or_else (cond (eq_by_cmp key_cmp q e.0) (Some e.1) (maps.find key_cmp q es)) o
+front_first e es q o h = elim (eq_by_cmp key_cmp q e.0) as (λ b. eq_by_cmp key_cmp q e.0 ≡ b → or_else (maps.find key_cmp q es) (cond b (Some e.1) o) ≡ or_else (cond b (Some e.1) (maps.find key_cmp q es)) o) [
+  | true ↦ λ ties. ap (λ u. or_else u (Some e.1)) (ap (λ k. maps.find key_cmp k es) (exact_keys q e.0 ((Equal-is (key_cmp q e.0)).0 ties)) ∙ none_below e.0 es h)
+  | false ↦ λ apart. refl
+] refl
+
+-- what it then has: these entries, and what it had beside them
+get-with_all : (es : List (List ℕ × Stamped)) (m : Part) (q : List ℕ) → T (maps.is_sorted key_cmp es) → maps.get (with_all es m) q ≡ or_else (maps.find key_cmp q es) (maps.get m q)
+get-with_all [] m q h = refl
+get-with_all (e ∷ es) m q h =
+    get-with_all es (maps.insert m e.0 e.1) q (second_T (below_all key_cmp e.0 es) (maps.is_sorted key_cmp es) h)
+    ∙ ap (or_else (maps.find key_cmp q es)) (maps.get-insert nat_list_cmp_total m e.0 e.1 q)
+    ∙ front_first e es q (maps.get m q) (first_T (below_all key_cmp e.0 es) (maps.is_sorted key_cmp es) h)
+
+-- all entries of a part, put in turn into an empty one, make that part
+pub with_all-empty : (m : Part) → with_all (maps.entries m) maps.empty ≡ m
+with_all-empty m = maps.same_map nat_list_cmp_total exact_keys _ _ (λ q.
+    get-with_all (maps.entries m) maps.empty q (maps.entries_sorted m)
+    ∙ ap (or_else (maps.find key_cmp q (maps.entries m))) (maps.get-empty key_cmp q)
+    ∙ or_none (maps.find key_cmp q (maps.entries m))
+    ∙ sym (maps.get-entries m q))

@@ -7,7 +7,7 @@ ghost use Rattle.container_seg.specs.Contents.{place, part_entries};
 ghost use Rattle.container_seg.specs.Lifespans.{is_fresh, outlasts};
 ghost use Rattle.container_seg.specs.Scans.{next_chunk, without_deadlines};
 
-use crate::parts::{clear_in, grow, left, plain, purge_in, put_in, remove_in};
+use crate::parts::{clear_in, copied, grow, left, plain, purge_in, put_in, remove_in};
 use crate::segment_map::{SegmentMap, outlasts};
 use grid_base::{Batch, Chunk, Key, NoMemory, NodeId, SegmentId, Stamped, StampedEntries};
 use std::alloc::Global;
@@ -48,6 +48,18 @@ impl Container {
             node,
             clock: 0,
             segments: Vec::new(alloc),
+        })
+    }
+
+    /// An equal container in memory of its own. The only failure is that memory runs out.
+    pub fn copy(&self, alloc: Global) -> Result<Container, NoMemory>
+        ensures { IfOk result (λ copy. copy ≡ self.now) }
+    {
+        let segments = copied(alloc, &self.segments)?;
+        Ok(Container {
+            node: self.node,
+            clock: self.clock,
+            segments,
         })
     }
 

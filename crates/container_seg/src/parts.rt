@@ -24,6 +24,17 @@ pub(crate) fn grow(alloc: Global, segments: &mut Vec<SegmentMap>, at: usize) -> 
     Ok(())
 }
 
+/// Equal segments in memory of their own. The only failure is that memory runs out.
+pub(crate) fn copied(alloc: Global, segments: &[SegmentMap]) -> Result<Vec<SegmentMap>, NoMemory>
+    ensures { IfOk result (λ copied. copied.items ≡ segments.now) }
+{
+    let mut copied = Vec::with_capacity(alloc, segments.len())?;
+    for segment in segments {
+        copied.push(segment.copy(alloc)?)?;
+    }
+    Ok(copied)
+}
+
 /// Puts a value into the segment at `at`.
 pub(crate) fn put_in(
     segments: &mut Vec<SegmentMap>,

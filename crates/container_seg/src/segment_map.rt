@@ -92,6 +92,18 @@ impl SegmentMap {
         self.tree.clear();
     }
 
+    /// Equal entries in memory of their own. The only failure is that memory runs out.
+    pub(crate) fn copy(&self, alloc: Global) -> Result<SegmentMap, NoMemory>
+        ensures { IfOk result (λ copy. copy ≡ self.now) }
+    {
+        let mut copied = SegmentMap::new(alloc);
+        let mut range = self.all();
+        while let Some((key, stamped)) = range.next() {
+            let _ = copied.put(*key, stamped.copy(alloc)?)?;
+        }
+        Ok(copied)
+    }
+
     /// Frees the entries that have expired when the clock stands here.
     pub(crate) fn purge(&mut self, clock: u32)
         ensures { (q : List ℕ) → left clock (map.get self.new q) ≡ left clock (map.get self.old q) }

@@ -78,7 +78,9 @@ fn expired_keys_are_gone_before_and_after_purge(rt: HostRuntime) -> Result<(), F
     assert_eq!(rt; scanned(alloc, &container, Some(&a))?, (2, b'c', false));
     assert!(rt; container.remove(segment, &b).is_none());
     assert!(rt; container.remove(segment, &a).is_some());
+    let copied = container.copy(alloc)?;
     container.drop_segment(segment);
     assert_eq!(rt; scanned(alloc, &container, None)?, (0, 0, true));
+    assert_eq!(rt; scanned(alloc, &copied, None)?, (2, b'c', false));
     Ok(())
 }

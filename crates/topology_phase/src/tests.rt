@@ -25,13 +25,19 @@ fn hash(alloc: Global, first: &[u8], second: &[u8]) -> Result<Hash, NoMemory> {
     hash.copy(alloc)
 }
 
-/// The topology in which node 0 owns both segments, and these nodes are to own them beside it.
-fn topology(alloc: Global, id: u32, phase: Phase, receivers: &[u8]) -> Result<Topology, Fail> {
-    let current = hash(alloc, &[0], &[0])?;
-    let pending = match (phase, receivers) {
-        (Phase::NoRebalance, _) => None,
-        (_, [receiver, ..]) => Some(hash(alloc, &[0, *receiver], &[*receiver, 0])?),
-        _ => Some(hash(alloc, &[0], &[0])?),
+/// The owners of two segments.
+type Pair = (&'static [u8], &'static [u8]);
+
+/// A topology by its number, its phase, its owners and those that they are to be.
+type Row = (u32, Phase, Pair, Option<Pair>);
+
+/// The topology of a row.
+fn topology(alloc: Global, row: Row) -> Result<Topology, Fail> {
+    let (id, phase, current, pending) = row;
+    let current = hash(alloc, current.0, current.1)?;
+    let pending = match pending {
+        Some(pending) => Some(hash(alloc, pending.0, pending.1)?),
+        None => None,
     };
     let made = Topology::try_new(TopologyId::new(id), phase, current, pending);
     Ok(made.ok_or("no topology")?)
@@ -67,15 +73,14 @@ fn table(alloc: Global, phase: Phase) -> Result<Option<[Owners; 3]>, NoMemory> {
     }
 }
 
-/// A topology by its number, its phase and its receivers.
-type Row = (u32, Phase, &'static [u8]);
-
 /// Whether the second topology may follow the first where these nodes live.
 fn may_follow(alloc: Global, from: Row, to: Row, live: &[u8]) -> Result<bool, Fail> {
-    let a = topology(alloc, from.0, from.1, from.2)?;
-    let b = topology(alloc, to.0, to.1, to.2)?;
+    let a = topology(alloc, from)?;
+    let b = topology(alloc, to)?;
+    let copied = b.copy(alloc)?;
     let live = set(live);
-    Ok(Members::new(&live).len() > 0 && neighbours(&a, &b, &live) && !a.is_same(&b))
+    let follows = Members::new(&live).len() > 0 && neighbours(&a, &copied, &live);
+    Ok(follows && !a.is_same(&b) && copied.is_same(&b))
 }
 
 #[test]
@@ -97,13 +102,21 @@ fn owners_follow_the_phase(rt: HostRuntime) -> Result<(), Fail> {
 
 #[test]
 fn topologies_follow_one_another(rt: HostRuntime) -> Result<(), Fail> {
-    let first: Row = (1, Phase::NoRebalance, &[]);
-    let begun: Row = (2, Phase::ReadOld, &[1]);
-    let all: Row = (3, Phase::ReadAll, &[1]);
-    let given_up: Row = (3, Phase::NoRebalance, &[]);
-    let repaired: Row = (3, Phase::ReadOld, &[]);
+    let old: Pair = (&[0], &[0]);
+    let new: Pair = (&[0, 1], &[1, 0]);
+    let first: Row = (1, Phase::NoRebalance, old, None);
+    let begun: Row = (2, Phase::ReadOld, old, Some(new));
+    let all: Row = (3, Phase::ReadAll, old, Some(new));
+    let moved: Row = (4, Phase::ReadNew, old, Some(new));
+    let completed: Row = (5, Phase::NoRebalance, new, None);
+    let undone: Row = (5, Phase::NoRebalance, old, None);
+    let given_up: Row = (3, Phase::NoRebalance, old, None);
+    let repaired: Row = (3, Phase::ReadOld, old, Some(old));
+    let stood_in: Row = (2, Phase::NoRebalance, (&[1], &[2]), None);
+    let crowded: Row = (2, Phase::NoRebalance, (&[1], &[1]), None);
     let both: &[u8] = &[0, 1];
     let alone: &[u8] = &[0];
+    let others: &[u8] = &[1, 2];
     let rows = [
         (first, begun, both, true),
         (first, begun, alone, false),
@@ -111,6 +124,11 @@ fn topologies_follow_one_another(rt: HostRuntime) -> Result<(), Fail> {
         (begun, given_up, both, true),
         (begun, given_up, alone, false),
         (begun, repaired, alone, true),
+        (all, moved, both, true),
+        (moved, completed, both, true),
+        (moved, undone, both, false),
+        (first, stood_in, others, true),
+        (first, crowded, others, false),
         (first, all, both, false),
     ];
     for (a, b, live, follows) in rows {
