@@ -1,0 +1,2 @@
+pub mod FlyingLaws
+mod TestLaws
