@@ -1,0 +1,5 @@
+pub mod Cells
+pub mod Copying
+pub mod Changes
+pub mod Chunks
+pub mod Leaving
