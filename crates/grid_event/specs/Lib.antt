@@ -3,3 +3,7 @@ pub mod Taking
 pub mod Weights
 pub mod Histories
 pub mod Insides
+pub mod Members
+pub mod Maps
+pub mod UnitHistories
+pub mod Spans

@@ -1,5 +1,6 @@
 -- The copies of all nodes, and the transfers that are there.
-use Rattle.std.specs.Prelude.{ℕ, ◌==◌, Bool, ◌&&◌, List, [], map, filter, Option, None, is_none, is_some}
+use Rattle.std.specs.Prelude.{ℕ, ◌==◌, Bool, ◌&&◌, List, [], ◌∷◌, map, Option, is_none}
+use Rattle.std.specs.List.{filter}
 use Rattle.std.specs.FinMap as map_of
 use Rattle.std.specs.FinSet as set_of
 use Rattle.grid_base.specs.Nodes.{Nodes}

@@ -1,0 +1,10 @@
+pub mod Same
+pub mod State
+pub mod Writes
+pub mod Topologies
+pub mod Transfers
+pub mod Calls
+pub mod Units
+pub mod Answers
+pub mod Step
+pub mod Commands
