@@ -8,3 +8,7 @@ pub mod Units
 pub mod Answers
 pub mod Step
 pub mod Commands
+pub mod Evidence
+pub mod Guarantees
+pub mod Rightness
+pub mod Causes
