@@ -12,3 +12,4 @@ pub mod Evidence
 pub mod Guarantees
 pub mod Rightness
 pub mod Causes
+pub mod Laws

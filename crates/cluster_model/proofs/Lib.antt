@@ -1,0 +1,6 @@
+pub mod ChosenSteps
+pub mod Steps
+pub mod Frames
+pub mod MapLaws
+pub mod EvidenceLaws
+pub mod CauseLaws
