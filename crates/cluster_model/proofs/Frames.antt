@@ -93,7 +93,7 @@ copying_stays st (Take t) other = refl
 copying_stays st (Done unit) other = refl
 copying_stays st (Answer a) other = refl
 
-units_stays : (st : State) (event : Event) → moves_units event ≡ false → (changed st event).units ≡ st.units
+pub units_stays : (st : State) (event : Event) → moves_units event ≡ false → (changed st event).units ≡ st.units
 unfolding written erased ticked joined departed announced installed copied landed invoked rounded begun_unit scanned fetched taken_by ended_unit answered
 units_stays st (Write w) other = key_units st w.node w.key (Some (record { value = w.value; until = w.until })) (segment_of st w.key)
 units_stays st (Erase e) other = key_units st e.node e.key None (segment_of st e.key)

@@ -13,3 +13,4 @@ pub mod Guarantees
 pub mod Rightness
 pub mod Causes
 pub mod Laws
+pub mod Completion

@@ -1,0 +1,6 @@
+pub mod Pasts
+pub mod Lists
+pub mod Numbers
+pub mod UnitFacts
+pub mod Reading
+pub mod ReadSteps

@@ -1,0 +1,2 @@
+//! Laws over every journal that is a run of a cluster.
+#![tactic(auto)]
