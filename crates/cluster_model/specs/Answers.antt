@@ -33,11 +33,11 @@ abbrev pub first_of : List ℕ → Option ℕ
 first_of [] = None
 first_of (segment ∷ segments) = Some segment
 
--- a call has a value, or a walk ends, once every segment is complete; at most once, also where its round was made and no unit is open
+-- a call has a value, or a walk ends, once every segment is complete; a call that doesn't ask again, in place of that, once its
+-- round was made and no unit is open
 abbrev pub is_whole : State → ℕ → Call → Bool
 is_whole st number call =
-    all_complete st number
-    || (not (asks_again call.request.guarantee) && (not (call.rounds == 0) && not (has_open st number)))
+    if asks_again call.request.guarantee then all_complete st number else not (call.rounds == 0) && not (has_open st number)
 
 abbrev pub whole_outcome : State → ℕ → Call → Outcome
 whole_outcome st number call =

@@ -71,7 +71,7 @@ all_complete st call = list_all (is_complete st.units call) (segments_of st)
 abbrev pub granted : Call → ℕ
 granted call = granted_rounds call.request.guarantee call.request.rounds
 
--- the originator has installed each topology at which a unit of the last round was refused or was lost by an installation
+-- the originator has installed a topology not older than any at which a unit of the last round was refused or was lost by an installation
 abbrev pub has_caught_up : State → Call → Bool
 has_caught_up st call =
     list_all (λ (unit : Unit). nat_le (closed_at unit.work.state) (installed_id st.coord call.originator))

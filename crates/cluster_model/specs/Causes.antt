@@ -63,11 +63,12 @@ all_ended config past call = list_all (has_ended_on past call) (all_segments con
 abbrev pub all_closed : Config → List Event → ℕ → Bool
 all_closed config past call = list_all (is_closed config past) (asks_of_call past call)
 
--- every segment has ended; for a call that doesn't ask again: there is a round, and each unit is closed
+-- every segment has ended; for a call that doesn't ask again, in place of that, there is a round and each unit is closed
 abbrev pub is_satisfied : Config → List Event → ℕ → InvokeEvent → Bool
 is_satisfied config past call invoke =
-    all_ended config past call
-    || (not (asks_again invoke.request.guarantee) && (nat_lt 0 (rounds_in past call) && all_closed config past call))
+    if asks_again invoke.request.guarantee
+    then all_ended config past call
+    else nat_lt 0 (rounds_in past call) && all_closed config past call
 
 -- a call that asks again made all its granted rounds, and each unit is closed
 abbrev pub has_given_up : Config → List Event → ℕ → InvokeEvent → Bool
@@ -152,15 +153,18 @@ moved_between_rounds (Round round ∷ past) call node =
     && moved_between_rounds past call node
 moved_between_rounds (_ ∷ past) call node = moved_between_rounds past call node
 
--- the node of the unit had installed a higher topology than each round that asked for it
+-- the node of the unit is live, and had installed a higher topology than each round that asked for it
 abbrev pub is_ahead_of_rounds : Config → List Event → ℕ → List RoundEvent → Bool
 is_ahead_of_rounds config past unit rounds =
     list_all
     (λ (round : RoundEvent).
-    list_all (λ (ask : Ask). not (ask.unit == unit) || nat_lt round.id (installed_topology config past ask.node)) round.asks)
+    list_all
+    (λ (ask : Ask).
+    not (ask.unit == unit) || (is_live config past ask.node && nat_lt round.id (installed_topology config past ask.node)))
+    round.asks)
     rounds
 
--- each node that refused a unit of the call had installed a higher topology than the unit's round
+-- each node that refused a unit of the call was live, and had installed a higher topology than the unit's round
 abbrev pub refused_ahead : Config → List Event → ℕ → Bool
 refused_ahead config [] call = true
 refused_ahead config (Begin unit runs ∷ past) call =

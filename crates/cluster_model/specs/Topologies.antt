@@ -20,7 +20,7 @@ use Rattle.cluster_model.specs.State.{Call, State, Unit, is_ended, is_on, is_ope
 unfoldable pub can_join : State → ℕ → Bool
 can_join st node = may_join st.coord node
 
--- the node is live, with the newest topology; it holds nothing
+-- the node is live, with the newest topology; nothing else changes
 unfoldable pub joined : State → ℕ → State
 joined st node = record st { coord = joins st.coord node }
 
@@ -53,13 +53,13 @@ changed_calls change (call ∷ calls) = map_of.insert (changed_calls change call
 unfoldable pub each_call : (ℕ → Call → Call) → map_of.FinMap nat_cmp Call → map_of.FinMap nat_cmp Call
 each_call change calls = changed_calls change (map_of.entries calls)
 
--- what the departure of a node does to copies and transfers: those to it go, those that it provides and that haven't ended
--- go, the lost segments are forgotten everywhere, and its copies go
+-- what the departure of a node does to copies and transfers: the transfers to it go, and those that it provides and that haven't
+-- ended, the lost segments are forgotten everywhere, and its copies go
 abbrev pub left_by : State → ℕ → Copying
 left_by st node =
     drops node (λ segment. true) (forgets (loses st.coord node) (restarts node (cancels node st.copying)))
 
--- the node is gone with its copies, and so are the lost segments; its open units are lost; and unanswered calls note the losses
+-- the node is gone with its copies, and so are the lost segments; its open units are lost; and unanswered calls that ask again note the losses
 unfoldable pub departed : State → ℕ → State
 departed st node = record st {
   coord = departs st.coord node;
@@ -94,7 +94,7 @@ is_that topology (Some next) = same_topology topology next
 unfoldable pub can_announce : State → Topology → Bool
 can_announce st topology = is_that topology (next_topology st)
 
--- the topology is the newest; but in the first phase of a rebalance all transfers go
+-- the topology is the newest; all transfers go, unless its phase is the first one of a rebalance
 unfoldable pub announced : State → Topology → State
 announced st topology = record st {
   coord = announces st.coord topology;

@@ -28,8 +28,8 @@ abbrev pub is_provided : ℕ → Option ℕ → Bool
 is_provided node None = false
 is_provided node (Some other) = node == other
 
--- all live nodes have the newest topology, the node is to receive the segment, its transfer isn't there yet or hasn't ended
--- with nothing flying, and the chunk is the next one of the node that provides
+-- all live nodes have the newest topology, the node is to receive the segment, its transfer isn't there yet, or it hasn't
+-- ended and nothing of it flies, and the chunk is the next one of the node that provides
 unfoldable pub can_copy : State → CopyEvent → Bool
 can_copy st c =
     all_installed st.coord

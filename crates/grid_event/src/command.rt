@@ -37,7 +37,7 @@ pub enum Command {
     },
     /// Announces the next topology.
     Announce,
-    /// Lets a node install the topology that follows its own.
+    /// Lets a node install the newest topology.
     Install {
         node: NodeId,
     },
@@ -46,7 +46,7 @@ pub enum Command {
         receiver: NodeId,
         segment: SegmentId,
     },
-    /// Ends the copy of a segment to a receiver.
+    /// Lets the chunk that flies to a receiver land.
     Land {
         receiver: NodeId,
         segment: SegmentId,

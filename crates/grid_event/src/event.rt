@@ -38,7 +38,7 @@ pub enum Event {
         id: TopologyId,
     },
     Copy(Boxed<CopyEvent>),
-    /// A receiver has every entry of a segment that was copied to it.
+    /// The chunk that flies to a receiver landed there.
     Land {
         receiver: NodeId,
         segment: SegmentId,

@@ -51,7 +51,7 @@ impl Duplicate for EraseEvent {
     }
 }
 
-/// A chunk of a segment came from its provider to a receiver.
+/// A chunk of a segment was sent by its provider, and flies to a receiver.
 #[derive(Debug, Drop)]
 pub struct CopyEvent {
     pub receiver: NodeId,

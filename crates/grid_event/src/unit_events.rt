@@ -32,7 +32,7 @@ impl Duplicate for ScanEvent {
     }
 }
 
-/// A unit handed the next entries of its segment to its call.
+/// A unit of a walk read the next entries of its segment, which fly to its call.
 #[derive(Debug, Drop)]
 pub struct FetchEvent {
     pub unit: UnitId,

@@ -1,6 +1,7 @@
 //! Texts with the place where each stops being a pipeline's, if it isn't one.
 
 use crate::{ParseFault, parse_pipeline, print_pipeline};
+use std::alloc::Global;
 use std::test::Fail;
 
 /// Each text, and the length of its longest front that begins a pipeline's text; none where the
@@ -120,5 +121,65 @@ fn reads_and_prints(rt: HostRuntime) -> Result<(), Fail> {
     }
     let printed = print_pipeline(alloc, &parse_pipeline(alloc, long)?)?;
     assert!(rt; printed.as_slice() == long);
+    Ok(())
+}
+
+/// A word, then one word so many times, a word, another word as often, and a last word.
+fn repeated(alloc: Global, words: [&str; 5], times: usize) -> Result<Vec<u8>, Fail> {
+    let [front, before, middle, behind, back] = words;
+    let mut text = Vec::new(alloc);
+    text.extend_from_slice(front.as_bytes())?;
+    for _ in 0..times {
+        text.extend_from_slice(before.as_bytes())?;
+    }
+    text.extend_from_slice(middle.as_bytes())?;
+    for _ in 0..times {
+        text.extend_from_slice(behind.as_bytes())?;
+    }
+    text.extend_from_slice(back.as_bytes())?;
+    Ok(text)
+}
+
+/// Texts with repeated words, so long, each the text of a pipeline.
+const REPEATED: [([&str; 5], usize, usize); 8] = [
+    (["", "distinct | ", "count", "", ""], 8, 93),
+    (["", "filter value | ", "sum", "", ""], 8, 123),
+    (["flatmap [value", ", value", "", "", "] | max"], 7, 70),
+    (["filter ", "not(", "true", ")", " | count"], 201, 1024),
+    (["map ", "(1 + ", "it", ")", " | sum"], 168, 1020),
+    (["map ", "(", "it", " - 1)", " | sum"], 168, 1020),
+    (["map ", "length(", "key", ")", " | sum"], 126, 1021),
+    (["filter ", "starts(key, ", "key", ")", " | each"], 77, 1018),
+];
+
+#[test]
+fn reads_and_prints_long_texts(rt: HostRuntime) -> Result<(), Fail> {
+    let alloc = rt.alloc();
+    for (words, times, length) in REPEATED {
+        let text = repeated(alloc, words, times)?;
+        assert_eq!(rt; text.len(), length);
+        assert!(rt; text.len() <= 1024);
+        let pipeline = parse_pipeline(alloc, &text)?;
+        let printed = print_pipeline(alloc, &pipeline)?;
+        assert!(rt; printed.as_slice() == text.as_slice(), "of {length} bytes");
+    }
+    Ok(())
+}
+
+/// Texts that are a front of some pipeline's text, however deep.
+#[test]
+fn deep_fronts_stop_at_their_end(rt: HostRuntime) -> Result<(), Fail> {
+    let alloc = rt.alloc();
+    for (words, times) in [
+        (["map ", "(", "", "", ""], 1020),
+        (["filter ", "not(", "", "", ""], 254),
+        (["flatmap [0", ", 0", "", "", ""], 338),
+    ] {
+        let text = repeated(alloc, words, times)?;
+        assert!(rt; text.len() <= 1024);
+        let at = text.len() as u32;
+        let fault = parse_pipeline(alloc, &text).err();
+        assert!(rt; fault == Some(ParseFault::Syntax { at }), "behind {at}");
+    }
     Ok(())
 }

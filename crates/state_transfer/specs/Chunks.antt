@@ -28,7 +28,7 @@ abbrev pub chunk_of : Copying → ℕ → ℕ → ℕ → ℕ → Portion Stampe
 chunk_of c receiver segment provider most =
     next_chunk provider (sent_of (transfer_to c.transfers receiver segment)) most (part_of c.cells provider segment)
 
--- a transfer that begins: nothing was sent, and no key is touched
+-- a transfer that begins: nothing was sent, and no key is touched; one that is there stays as it is
 abbrev pub begun : Option Transfer → ℕ → Transfer
 begun None provider = record { provider = provider; sent = None; flying = None; last = false; touched = set_of.empty }
 begun (Some transfer) provider = transfer
