@@ -4,3 +4,4 @@ pub mod Numbers
 pub mod UnitFacts
 pub mod Reading
 pub mod ReadSteps
+pub mod ReadKinds

@@ -1,5 +1,5 @@
 -- Each event keeps what is known of what units have read.
-use Rattle.std.proofs.Common.{◌≡◌, ℕ, suc, ◌+◌, ◌≤◌, ◌<◌, ◌==◌, Bool, true, false, not, ◌&&◌, ◌||◌, cond, List, [], ◌∷◌, ◌++◌, map, length, Option, None, Some, refl, sym, ap, ◌∙◌, arith, subst}
+use Rattle.std.proofs.Common.{◌≡◌, ℕ, suc, ◌+◌, ◌≤◌, ◌<◌, ◌==◌, Bool, true, false, not, ◌&&◌, ◌||◌, cond, List, [], ◌∷◌, ◌++◌, map, length, length-append, Option, None, Some, refl, sym, ap, ◌∙◌, arith, subst}
 use Rattle.std.proofs.lemmas.Bool.{and_parts}
 use Rattle.std.proofs.lemmas.Bool.Decides.{nat_tests}
 use Rattle.std.specs.List.{AllByRecursion}
@@ -41,13 +41,13 @@ abbrev pub IsAside : Event → Type 0
 IsAside event = (id : ℕ) (past : List Event) → (begins id event ≡ false) × (has_ended (event ∷ past) id ≡ has_ended past id)
 
 -- a unit that such an event leaves as it is
-still : (config : Config) (past : List Event) (event : Event) → IsAside event → (unit : Unit) → ReadKept config past unit → ReadKept config (event ∷ past) unit
+pub still : (config : Config) (past : List Event) (event : Event) → IsAside event → (unit : Unit) → ReadKept config past unit → ReadKept config (event ∷ past) unit
 still config past event aside unit r =
     carried config past event unit.work.id unit.work.segment unit.work.node unit.work.entries unit.work.last unit.work.state unit.work.state
     (aside unit.work.id past).0 ((aside unit.work.id past).1 ∙ r.told) (λ h. h) (λ h. h) r
 
 -- such an event that leaves all units as they are
-stays : (config : Config) (past : List Event) (event : Event) (units : List Unit) → IsAside event → UnitsKept config past units → UnitsKept config (event ∷ past) units
+pub stays : (config : Config) (past : List Event) (event : Event) (units : List Unit) → IsAside event → UnitsKept config past units → UnitsKept config (event ∷ past) units
 stays config past event units aside k = record {
   numbered = k.numbered;
   unborn = λ id more. (aside id past).1 ∙ k.unborn id more;
@@ -59,7 +59,7 @@ length-map_same change [] = refl
 length-map_same change (unit ∷ units) = let h = length-map_same change units in omega arith
 
 -- such an event that loses open units
-losing : Option ℕ → (Unit → Bool) → Unit → Unit
+abbrev losing : Option ℕ → (Unit → Bool) → Unit → Unit
 losing at test unit = cond (test unit) (with_loss at unit) unit
 
 open_unended : (stage : UnitState) → is_open stage ≡ true → is_ended stage ≡ false
@@ -86,7 +86,7 @@ lost_id at test unit = by_test (test unit)
     by_test true = refl
     by_test false = refl
 
-loses_units : (config : Config) (past : List Event) (event : Event) (at : Option ℕ) (test : Unit → Bool) (units : List Unit) → IsAside event →
+pub loses_units : (config : Config) (past : List Event) (event : Event) (at : Option ℕ) (test : Unit → Bool) (units : List Unit) → IsAside event →
     ((unit : Unit) → test unit ≡ true → is_open_unit unit ≡ true) → UnitsKept config past units → UnitsKept config (event ∷ past) (map (losing at test) units)
 loses_units config past event at test units aside opens k = record {
   numbered = numbered-map (losing at test) (lost_id at test) 1 units k.numbered;
@@ -110,7 +110,7 @@ KeepsNamed config past event number change unit = (unit.work.id == number) ≡ t
 abbrev pub IsAsideOthers : Event → ℕ → Type 0
 IsAsideOthers event number = (id : ℕ) (past : List Event) → (id == number) ≡ false → (begins id event ≡ false) × (has_ended (event ∷ past) id ≡ has_ended past id)
 
-named_one : (config : Config) (past : List Event) (event : Event) (number : ℕ) (change : Unit → Unit) → IsAsideOthers event number → (unit : Unit) →
+pub named_one : (config : Config) (past : List Event) (event : Event) (number : ℕ) (change : Unit → Unit) → IsAsideOthers event number → (unit : Unit) →
     ReadKept config past unit → KeepsNamed config past event number change unit → ReadKept config (event ∷ past) (cond (unit.work.id == number) (change unit) unit)
 named_one config past event number change others unit r f = by_test (unit.work.id == number) refl
   where
@@ -120,7 +120,7 @@ named_one config past event number change others unit r f = by_test (unit.work.i
         carried config past event unit.work.id unit.work.segment unit.work.node unit.work.entries unit.work.last unit.work.state unit.work.state
         (others unit.work.id past t).0 ((others unit.work.id past t).1 ∙ r.told) (λ h. h) (λ h. h) r
 
-names_unit : (config : Config) (past : List Event) (event : Event) (number : ℕ) (change : Unit → Unit) (units : List Unit) →
+pub names_unit : (config : Config) (past : List Event) (event : Event) (number : ℕ) (change : Unit → Unit) (units : List Unit) →
     ((unit : Unit) → (change unit).work.id ≡ unit.work.id) → number ≤ length units → IsAsideOthers event number → UnitsKept config past units →
     AllByRecursion (KeepsNamed config past event number change) units → UnitsKept config (event ∷ past) (with_unit number change units)
 names_unit config past event number change units keeps within others k f = record {
@@ -151,7 +151,7 @@ fresh_units config past st r originator n (segment ∷ segments) unborn =
     (fresh_unit config past n segment _ (unborn n (omega arith)), fresh_units config past st r originator (n + 1) segments (λ id l. unborn id (omega arith)))
 
 -- a round asks further units
-asks_units : (config : Config) (past : List Event) (st : State) (r : RoundEvent) → can_round st r ≡ true → UnitsKept config past st.units → UnitsKept config (Round r ∷ past) (rounded st r).units
+pub asks_units : (config : Config) (past : List Event) (st : State) (r : RoundEvent) → can_round st r ≡ true → UnitsKept config past st.units → UnitsKept config (Round r ∷ past) (rounded st r).units
 unfolding rounded
 asks_units config past st r may k =
     let found : (call : Call) × CanRound st r call = round_facts st r may in

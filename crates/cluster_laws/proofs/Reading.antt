@@ -78,10 +78,10 @@ carried config past event id segment node entries last before after b told reads
 }
 
 -- a unit that begins has read nothing, and every key is past
-pub begun_reading : (config : Config) (past : List Event) (id segment node : ℕ) (entries : List Entry) (last : Bool) (before after : UnitState) →
-    is_asked before ≡ true → is_asked after ≡ false → has_ended past id ≡ is_ended after →
-    ReadOf config past id segment node entries last before → ReadOf config past id segment node entries last after
-begun_reading config past id segment node entries last before after a unasked told r =
+pub begun_reading : (config : Config) (past later : List Event) (id segment node : ℕ) (entries : List Entry) (last : Bool) (before after : UnitState) →
+    is_asked before ≡ true → is_asked after ≡ false → has_ended later id ≡ is_ended after →
+    ReadOf config past id segment node entries last before → ReadOf config later id segment node entries last after
+begun_reading config past later id segment node entries last before after a unasked told r =
     let u : (entries ≡ []) × (last ≡ false) = r.unread a in
     record {
       told = told;
