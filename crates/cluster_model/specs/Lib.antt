@@ -12,3 +12,5 @@ pub mod Evidence
 pub mod Guarantees
 pub mod Rightness
 pub mod Causes
+pub mod Told
+pub mod Kept

@@ -1,0 +1,4 @@
+pub mod Facts
+pub mod ContentSteps
+pub mod TopologySteps
+pub mod EmptySteps
