@@ -2,3 +2,5 @@ pub mod Facts
 pub mod ContentSteps
 pub mod TopologySteps
 pub mod EmptySteps
+pub mod CopySteps
+pub mod TransferSteps
