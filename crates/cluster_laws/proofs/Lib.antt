@@ -5,3 +5,9 @@ pub mod UnitFacts
 pub mod Reading
 pub mod ReadSteps
 pub mod ReadKinds
+pub mod Facts
+pub mod ContentSteps
+pub mod TopologySteps
+pub mod EmptySteps
+pub mod CopySteps
+pub mod TransferSteps

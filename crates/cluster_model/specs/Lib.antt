@@ -14,3 +14,5 @@ pub mod Rightness
 pub mod Causes
 pub mod Laws
 pub mod Completion
+pub mod Told
+pub mod Kept

@@ -3,3 +3,4 @@ pub mod Copying
 pub mod Changes
 pub mod Chunks
 pub mod Leaving
+pub mod Faithful
