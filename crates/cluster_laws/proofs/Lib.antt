@@ -11,3 +11,5 @@ pub mod TopologySteps
 pub mod EmptySteps
 pub mod CopySteps
 pub mod TransferSteps
+pub mod UnitPlaces
+pub mod PlaceKinds

@@ -53,7 +53,7 @@ config_stays st (Take t) = refl
 config_stays st (Done unit) = refl
 config_stays st (Answer a) = refl
 
-coord_stays : (st : State) (event : Event) → moves_members event ≡ false → (changed st event).coord ≡ st.coord
+pub coord_stays : (st : State) (event : Event) → moves_members event ≡ false → (changed st event).coord ≡ st.coord
 unfolding written erased ticked joined departed announced installed copied landed invoked rounded begun_unit scanned fetched taken_by ended_unit answered
 coord_stays st (Write w) other = key_coord st w.node w.key (Some (record { value = w.value; until = w.until })) (segment_of st w.key)
 coord_stays st (Erase e) other = key_coord st e.node e.key None (segment_of st e.key)
