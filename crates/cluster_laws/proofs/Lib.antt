@@ -4,3 +4,5 @@ pub mod TopologySteps
 pub mod EmptySteps
 pub mod CopySteps
 pub mod TransferSteps
+pub mod SameChunks
+pub mod Requests

@@ -41,6 +41,19 @@ pub faithful_as : (t p l : Bool) (f a b : Option Stamped) (t2 : Bool) (f2 a2 b2 
 faithful_as t p l f a b t2 f2 a2 b2 ts fs as_ bs h =
     subst (λ x. IsFaithful t2 p l f2 a2 x) bs (subst (λ x. IsFaithful t2 p l f2 x b) as_ (subst (λ x. IsFaithful t2 p l x a b) fs (subst (λ x. IsFaithful x p l f a b) ts h)))
 
+-- what is known where a chunk is sent: the receiver lives and receives the segment, by the topology that all have; a transfer that is
+-- there goes on, with nothing flying, and is provided by the node; the node lives, owns the segment, and has what the map has of it;
+-- and the chunk is the next one
+pub record IsSending (c : Coordination) (p : Copying) (m : Contents) (r s q : ℕ) (chunk : Portion StampedEntry) (found : Option Transfer) : Type 0 where
+  pub live : lives c r ≡ true
+  pub receives : Receives c.newest r s
+  pub everywhere : (n : ℕ) → lives c n ≡ true → Receives (topology_of c n) r s
+  pub may : may_send found ≡ true
+  pub provider : (v : Transfer) → found ≡ Some v → v.provider ≡ q
+  pub provides : (lives c q ≡ true) × (among q (owners_at c.newest.current s) ≡ true)
+  pub right : (j : List ℕ) → copy_at p.cells q s j ≡ m s j
+  pub next : IsChunk p.cells q s (sent_of found) chunk
+
 -- ---- writes and erasures
 
 touched_or : (b : Bool) (touched : Keys) (k j : List ℕ) → cond b (eq_by_cmp key_cmp j k || set_of.contains touched j) (set_of.contains touched j) ≡ set_of.contains (cond b (set_of.insert touched k) touched) j
@@ -311,21 +324,8 @@ module _ (c : Coordination) (p : Copying) (m : Contents) (h : KeepsTransfers c p
 
   -- ---- chunks that are sent
 
-  -- what is known where a chunk is sent: the receiver lives and receives the segment, by the topology that all have; a transfer that is
-  -- there goes on, with nothing flying, and is provided by the node; the node lives, owns the segment, and has what the map has of it;
-  -- and the chunk is the next one
-  pub record IsSending (r s q : ℕ) (chunk : Portion StampedEntry) (found : Option Transfer) : Type 0 where
-    pub live : lives c r ≡ true
-    pub receives : Receives c.newest r s
-    pub everywhere : (n : ℕ) → lives c n ≡ true → Receives (topology_of c n) r s
-    pub may : may_send found ≡ true
-    pub provider : (v : Transfer) → found ≡ Some v → v.provider ≡ q
-    pub provides : (lives c q ≡ true) × (among q (owners_at c.newest.current s) ≡ true)
-    pub right : (j : List ℕ) → copy_at p.cells q s j ≡ m s j
-    pub next : IsChunk p.cells q s (sent_of found) chunk
-
   -- the cells are as they were where a transfer was there, and else the receiver's copies of the segment are gone
-  sound_chunk : (r s q : ℕ) (chunk : Portion StampedEntry) (found : Option Transfer) → transfer_to p.transfers r s ≡ found → IsSending r s q chunk found
+  sound_chunk : (r s q : ℕ) (chunk : Portion StampedEntry) (found : Option Transfer) → transfer_to p.transfers r s ≡ found → IsSending c p m r s q chunk found
       → (cells : Cells) → ((j : List ℕ) → copy_at cells r s j ≡ cond (is_some found || false) (copy_at p.cells r s j) None) → IsSound c cells m r s (with_chunk chunk (begun found q))
   sound_chunk r s q chunk None is go cells held = record {
     live = go.live;
@@ -363,7 +363,7 @@ module _ (c : Coordination) (p : Copying) (m : Contents) (h : KeepsTransfers c p
       none_flies (Some es) j e = absurd (cc)
 
   -- a chunk is sent: it has what the map has between the last key sent before and the last key sent now
-  pub copied_transfers : (r s q : ℕ) (chunk : Portion StampedEntry) → IsSending r s q chunk (transfer_to p.transfers r s) → KeepsTransfers c (sends r s q chunk p).cells (sends r s q chunk p).transfers m
+  pub copied_transfers : (r s q : ℕ) (chunk : Portion StampedEntry) → IsSending c p m r s q chunk (transfer_to p.transfers r s) → KeepsTransfers c (sends r s q chunk p).cells (sends r s q chunk p).transfers m
   copied_transfers r s q chunk go x t w is = elim (cases_Bool ((x == r) && (t == s))) [
     | inl here ↦ (
       let places = and_parts (x == r) (t == s) here in
