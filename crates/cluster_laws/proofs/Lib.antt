@@ -6,3 +6,6 @@ pub mod CopySteps
 pub mod TransferSteps
 pub mod SameChunks
 pub mod Requests
+pub mod Histories
+pub mod Starts
+pub mod Runs

@@ -12,6 +12,7 @@ use Rattle.topology_coord.specs.Coordination.{Coordination, all_installed, first
 use Rattle.topology_coord.specs.Following.{following, receives}
 use Rattle.topology_coord.proofs.MemberLaws.{each_of, topology_newest}
 use Rattle.topology_coord.proofs.NextLaws.{IsNext, following_is_next}
+use Rattle.topology_phase.specs.Laws.{IsOwned}
 use Rattle.topology_phase.specs.Owners.{among, owners_at}
 use Rattle.topology_phase.specs.Phases.{same_phase}
 use Rattle.topology_phase.specs.declared.phase.Phase.TheVariants.{ReadOld, ReadAll, NoRebalance}
@@ -149,11 +150,11 @@ only_way false b e h = absurd (cc)
 
 
 -- where all receivers have their copies, the transfer to each of them has ended
-pub receiver_over : (st : State) → length st.coord.newest.current ≡ st.config.segments → KeepsTopologies st.config.segments st.coord → all_copied st ≡ true
+pub receiver_over : (st : State) → length st.coord.newest.current ≡ st.config.segments → IsOwned st.coord.newest → all_copied st ≡ true
     → (n t : ℕ) → lives st.coord n ≡ true → Receives st.coord.newest n t
     → (v : Transfer) × (transfer_to st.copying.transfers n t ≡ Some v) × (has_ended v ≡ true)
-receiver_over st long h all n t live is =
-    let pending_long : length st.coord.newest.pending ≡ length st.coord.newest.current = elim h.owned.same_length [
+receiver_over st long owned all n t live is =
+    let pending_long : length st.coord.newest.pending ≡ length st.coord.newest.current = elim owned.same_length [
       | inl still ↦ (let first = is.phase in absurd (cc))
       | inr same ↦ same
     ] in

@@ -71,3 +71,12 @@ cells-closes p = refl
 pub transfer-closes : (p : Copying) (r s : ℕ) → transfer_to (closes p).transfers r s ≡ None
 unfolding closes
 transfer-closes p r s = transfer-none r s
+
+-- neither turns the clock
+pub clock-drops : (node : ℕ) (test : ℕ → Bool) (p : Copying) → (drops node test p).clock ≡ p.clock
+unfolding drops
+clock-drops node test p = refl
+
+pub clock-closes : (p : Copying) → (closes p).clock ≡ p.clock
+unfolding closes
+clock-closes p = refl
