@@ -1,24 +1,24 @@
 -- What is known of a cluster where an event may happen.
-use Rattle.std.proofs.Common.{◌≡◌, ℕ, suc, zero, ◌+◌, ◌<◌, ◌≤◌, ◌==◌, Bool, true, false, cond, not, ◌&&◌, ◌||◌, List, [], ◌∷◌, length, Option, Some, None, is_none, is_some, unwrap_or, refl, sym, ap, subst, ◌∙◌, inl, inr, arith}
-use Rattle.std.proofs.lemmas.Bool.{and_parts, eqb-true, eq-eqb, or_left, or_right, or_cases, true≢false, cases_eq, cases_Bool}
+use Rattle.std.proofs.Common.{◌≡◌, ℕ, suc, zero, ◌+◌, ◌<◌, ◌≤◌, ◌==◌, Bool, true, false, cond, not, ◌&&◌, ◌||◌, List, [], ◌∷◌, length, Option, Some, None, is_none, unwrap_or, refl, sym, ap, subst, ◌∙◌, inl, inr, arith}
+use Rattle.std.proofs.lemmas.Bool.{and_parts, eqb-true, eq-eqb, or_left, or_right, cases_eq}
 use Rattle.std.specs.List.{find, list_all, range_with_len}
 use Rattle.grid_base.specs.Portion.{Portion}
 use Rattle.grid_base.specs.declared.stamped_entry.StampedEntry.{StampedEntry}
 use Rattle.grid_event.specs.declared.store_events.CopyEvent.{CopyEvent}
 use Rattle.state_transfer.specs.Chunks.{chunk_of, flies, may_send, provider_of, sent_of}
-use Rattle.state_transfer.specs.Copying.{Copying, Transfer, has_ended, part_of, transfer_to}
+use Rattle.state_transfer.specs.Copying.{Copying, Transfer, has_ended, transfer_to}
 use Rattle.state_transfer.proofs.ChunkLaws.{IsChunk, next_is_chunk}
 use Rattle.topology_coord.specs.Coordination.{Coordination, all_installed, first_live, lives, some_live, topology_of}
-use Rattle.topology_coord.specs.Following.{following, receives}
+use Rattle.topology_coord.specs.Following.{receives}
 use Rattle.topology_coord.proofs.MemberLaws.{each_of, topology_newest}
 use Rattle.topology_coord.proofs.NextLaws.{IsNext, following_is_next}
 use Rattle.topology_phase.specs.Laws.{IsOwned}
 use Rattle.topology_phase.specs.Owners.{among, owners_at}
 use Rattle.topology_phase.specs.Phases.{same_phase}
-use Rattle.topology_phase.specs.declared.phase.Phase.TheVariants.{ReadOld, ReadAll, NoRebalance}
-use Rattle.topology_phase.specs.Topologies.{Topology, holders, read_owners, same_topology}
+use Rattle.topology_phase.specs.declared.phase.Phase.TheVariants.{ReadOld}
+use Rattle.topology_phase.specs.Topologies.{Topology, holders, read_owners}
 use Rattle.topology_phase.proofs.Mending.{any_of, owned_within}
-use Rattle.topology_phase.proofs.SameTopologies.{same_phase_is, same_phase_itself, same_topology_is}
+use Rattle.topology_phase.proofs.SameTopologies.{same_phase_is, same_topology_is}
 use Rattle.cluster_model.specs.Kept.{KeepsParts, KeepsTopologies, Receives}
 use Rattle.cluster_model.specs.State.{State, segment_of}
 use Rattle.cluster_model.specs.Told.{Contents}
@@ -147,7 +147,6 @@ over_there (Some v) h = (v, refl, h)
 only_way : (a b : Bool) → a ≡ true → (not a || b) ≡ true → b ≡ true
 only_way true b e h = h
 only_way false b e h = absurd (cc)
-
 
 -- where all receivers have their copies, the transfer to each of them has ended
 pub receiver_over : (st : State) → length st.coord.newest.current ≡ st.config.segments → IsOwned st.coord.newest → all_copied st ≡ true

@@ -1,14 +1,13 @@
 -- Each event keeps all, and so does each run.
-use Rattle.std.proofs.Common.{◌≡◌, ℕ, ◌+◌, ◌==◌, Bool, true, false, cond, not, ◌&&◌, List, [], ◌∷◌, reverse, Option, Some, None, refl, sym, ap, subst, ◌∙◌, inl, inr}
+use Rattle.std.proofs.Common.{◌≡◌, ℕ, ◌+◌, ◌==◌, Bool, true, false, cond, not, List, [], ◌∷◌, reverse, Option, Some, None, refl, sym, ap, subst, ◌∙◌}
 use mathlib.Core.List.{reverse_aux}
 use Rattle.std.proofs.lemmas.Bool.{and_parts, eqb-true}
 use Rattle.grid_base.specs.declared.stamped.Stamped.{Stamped}
 use Rattle.grid_event.specs.Configs.{is_config}
 use Rattle.grid_event.specs.Maps.{clock_of, entries_of}
-use Rattle.grid_event.specs.Members.{is_live, loses_segment, newest_topology}
 use Rattle.grid_event.specs.declared.config.Config.{Config}
 use Rattle.grid_event.specs.declared.event.Event.{Event}
-use Rattle.grid_event.specs.declared.event.Event.TheVariants.{Write, Erase, Tick, Join, Depart, Announce, Install, Copy, Land, Invoke, Round, Begin, Scan, Fetch, Take, Done, Answer}
+use Rattle.grid_event.specs.declared.event.Event.TheVariants.{Write, Erase, Tick, Join, Depart, Announce, Install, Copy, Land}
 use Rattle.grid_event.specs.declared.store_events.CopyEvent.{CopyEvent}
 use Rattle.grid_event.specs.declared.store_events.EraseEvent.{EraseEvent}
 use Rattle.grid_event.specs.declared.store_events.WriteEvent.{WriteEvent}
@@ -18,8 +17,7 @@ use Rattle.state_transfer.specs.Copying.{Copying}
 use Rattle.state_transfer.specs.Leaving.{closes}
 use Rattle.state_transfer.proofs.LeavingLaws.{clock-closes, clock-departs, clock-drops}
 use Rattle.state_transfer.proofs.StepLaws.{clock-changes, clock-lands, clock-sends, clock-ticks}
-use Rattle.topology_coord.specs.Changes.{may_install, may_join}
-use Rattle.topology_coord.specs.Coordination.{Coordination, installed_id, lives, loses, topology_of}
+use Rattle.topology_coord.specs.Coordination.{installed_id, lives, loses}
 use Rattle.topology_coord.proofs.MemberLaws.{topology-announces}
 use Rattle.topology_coord.proofs.NextLaws.{IsNext, next_follows}
 use Rattle.topology_phase.specs.Laws.{Follows}
@@ -30,13 +28,13 @@ use Rattle.topology_phase.specs.declared.phase.Phase.TheVariants.{ReadOld}
 use Rattle.cluster_model.specs.Kept.{IsKept, KeepsParts}
 use Rattle.cluster_model.specs.State.{State, segment_of, start}
 use Rattle.cluster_model.specs.Step.{allowed, changed, runs, state}
-use Rattle.cluster_model.specs.Told.{Contents, IsTold, contents_of, installed_by}
+use Rattle.cluster_model.specs.Told.{Contents, IsTold, contents_of}
 use Rattle.cluster_model.specs.Answers.{answered}
 use Rattle.cluster_model.specs.Calls.{invoked, rounded}
 use Rattle.cluster_model.specs.Topologies.{all_copied, announced, can_announce, can_depart, can_install, can_join, departed, installed, joined, left_by}
 use Rattle.cluster_model.specs.Transfers.{can_copy, can_land, copied, landed}
 use Rattle.cluster_model.specs.Units.{begun_unit, ended_unit, fetched, scanned, taken_by}
-use Rattle.cluster_model.specs.Writes.{can_change, can_erase, can_tick, can_write, changed_key, erased, ticked, writers, written}
+use Rattle.cluster_model.specs.Writes.{can_change, can_erase, can_write, changed_key, erased, ticked, writers, written}
 use Rattle.cluster_laws.specs.Laws.{HasCopies, TellsTheState}
 use Rattle.cluster_laws.proofs.ContentSteps.{changed_contents, departed_contents, erased_contents, lost_contents, ticked_contents, ticked_contents_are, written_contents}
 use Rattle.cluster_laws.proofs.CopySteps as copies
@@ -237,14 +235,9 @@ step_keeps config past st (Announce next) can h = announced_kept config past st 
 step_keeps config past st (Install q id) can h = installed_kept config past st q id can h
 step_keeps config past st (Copy e) can h = copied_kept config past st e can h
 step_keeps config past st (Land r s) can h = landed_kept config past st r s can h
-step_keeps config past st (Invoke i) can h = stands config past (Invoke i ∷ past) st (changed st (Invoke i)) (record { live = refl; member = refl; newest = refl; installed = refl; numbered = refl }) refl refl refl refl refl h
-step_keeps config past st (Round r) can h = stands config past (Round r ∷ past) st (changed st (Round r)) (record { live = refl; member = refl; newest = refl; installed = refl; numbered = refl }) refl refl refl refl refl h
-step_keeps config past st (Begin u runs) can h = stands config past (Begin u runs ∷ past) st (changed st (Begin u runs)) (record { live = refl; member = refl; newest = refl; installed = refl; numbered = refl }) refl refl refl refl refl h
-step_keeps config past st (Scan s) can h = stands config past (Scan s ∷ past) st (changed st (Scan s)) (record { live = refl; member = refl; newest = refl; installed = refl; numbered = refl }) refl refl refl refl refl h
-step_keeps config past st (Fetch f) can h = stands config past (Fetch f ∷ past) st (changed st (Fetch f)) (record { live = refl; member = refl; newest = refl; installed = refl; numbered = refl }) refl refl refl refl refl h
-step_keeps config past st (Take t) can h = stands config past (Take t ∷ past) st (changed st (Take t)) (record { live = refl; member = refl; newest = refl; installed = refl; numbered = refl }) refl refl refl refl refl h
-step_keeps config past st (Done u) can h = stands config past (Done u ∷ past) st (changed st (Done u)) (record { live = refl; member = refl; newest = refl; installed = refl; numbered = refl }) refl refl refl refl refl h
-step_keeps config past st (Answer a) can h = stands config past (Answer a ∷ past) st (changed st (Answer a)) (record { live = refl; member = refl; newest = refl; installed = refl; numbered = refl }) refl refl refl refl refl h
+-- the others change calls and units alone
+step_keeps config past st event can h =
+    stands config past (event ∷ past) st (changed st event) (record { live = refl; member = refl; newest = refl; installed = refl; numbered = refl }) refl refl refl refl refl h
 
 -- a run keeps all
 run_keeps : (config : Config) (past : List Event) (st : State) (events : List Event) → runs st events ≡ true → IsKept config past st → IsKept config (reverse_aux events past) (state st events)

@@ -1,14 +1,14 @@
 -- All parts are kept at the start of a cluster.
-use Rattle.std.proofs.Common.{◌≡◌, ℕ, suc, zero, ◌+◌, ◌<◌, ◌≤◌, ◌==◌, Bool, true, false, cond, not, ◌&&◌, ◌||◌, nat_le, nat_lt, List, [], ◌∷◌, map, length, Option, Some, None, is_some, unwrap_or, refl, sym, ap, subst, ◌∙◌, inl, inr, arith}
-use Rattle.std.proofs.lemmas.Bool.{and_parts, leb-true, ltb-true, lt-ltb, true≢false}
+use Rattle.std.proofs.Common.{◌≡◌, ℕ, suc, zero, ◌+◌, ◌<◌, ◌==◌, Bool, true, false, cond, not, ◌&&◌, ◌||◌, nat_le, nat_lt, List, [], ◌∷◌, map, length, Option, Some, None, is_some, unwrap_or, refl, sym, ap, ◌∙◌, inl, inr, arith}
+use Rattle.std.proofs.lemmas.Bool.{and_parts, leb-true, lt-ltb}
 use Rattle.std.proofs.lemmas.Bool.Decides.{nat_tests}
 use Rattle.std.specs.Cmp.{nat_cmp_total, nat_eq_equiv, unsigned_tied}
 use Rattle.std.specs.FinMap as map_of
 use Rattle.std.specs.FinSet as set_of
 use Rattle.std.specs.List.{list_all, range_with_len}
-use Rattle.std.specs.Ordering.{nat_cmp, eq_by_cmp}
+use Rattle.std.specs.Ordering.{nat_cmp}
 use Rattle.container_seg.specs.Places.{key_cmp}
-use Rattle.grid_base.specs.declared.limits.TheConstants.{MOST_CHUNK, MOST_NODES, MOST_OWNERS, MOST_SEGMENTS}
+use Rattle.grid_base.specs.declared.limits.TheConstants.{MOST_NODES, MOST_OWNERS, MOST_SEGMENTS}
 use Rattle.grid_base.specs.declared.stamped.Stamped.{Stamped}
 use Rattle.grid_event.specs.Configs.{is_config, is_up_to}
 use Rattle.grid_event.specs.declared.config.Config.{Config}
@@ -20,14 +20,13 @@ use Rattle.state_transfer.specs.Cells.{cell_cmp, destination_cmp}
 use Rattle.state_transfer.specs.Copying.{copy_at, transfer_to}
 use Rattle.topology_coord.specs.Coordination.{Coordination, first_coordination, first_installed, installed_id, live_nodes, lives}
 use Rattle.topology_coord.proofs.MemberLaws.{among-live, each_of}
-use Rattle.topology_phase.specs.Following.{is_owned_by}
 use Rattle.topology_phase.specs.Laws.{Names}
 use Rattle.topology_phase.specs.Owners.{Hash, among, is_ownerless, owners_at}
 use Rattle.topology_phase.proofs.Mending.{owned_within}
 use Rattle.topology_phase.proofs.NeighbourLaws.{each_row}
 use Rattle.topology_phase.proofs.Tables.{safe_alone}
-use Rattle.cluster_model.specs.Kept.{HasNothing, IsKept, KeepsParts, KeepsTopologies}
-use Rattle.cluster_model.specs.State.{State, start}
+use Rattle.cluster_model.specs.Kept.{IsKept, KeepsParts, KeepsTopologies}
+use Rattle.cluster_model.specs.State.{start}
 use Rattle.cluster_model.specs.Told.{IsTold, contents_of, is_segment}
 
 -- the settings in their limits

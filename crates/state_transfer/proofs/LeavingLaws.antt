@@ -1,5 +1,5 @@
 -- What leaves, and what stays.
-use Rattle.std.proofs.Common.{◌≡◌, ℕ, Bool, true, false, cond, not, ◌&&◌, ◌||◌, ◌==◌, List, Option, Some, None, is_some, refl, sym, ap, ◌∙◌}
+use Rattle.std.proofs.Common.{◌≡◌, ℕ, Bool, true, false, cond, not, ◌&&◌, ◌==◌, List, Option, None, refl, ap, ◌∙◌}
 use Rattle.grid_base.specs.declared.stamped.Stamped.{Stamped}
 use Rattle.state_transfer.specs.Cells.{Cells}
 use Rattle.state_transfer.specs.Copying.{Copying, Transfer, Transfers, copy_at, transfer_to}
