@@ -1,9 +1,9 @@
 -- What each event makes of the cluster's map, segment by segment.
-use Rattle.std.proofs.Common.{◌≡◌, ℕ, ◌+◌, ◌==◌, Bool, true, false, cond, not, ◌&&◌, List, [], ◌∷◌, Option, Some, None, refl, sym, ap, ◌∙◌, inl, inr}
+use Rattle.std.proofs.Common.{◌≡◌, ℕ, ◌+◌, ◌==◌, Bool, true, false, cond, not, ◌&&◌, List, ◌∷◌, Option, Some, None, refl, sym, ap, ◌∙◌, inl, inr}
 use Rattle.std.proofs.lemmas.Bool.{eqb-true, cases_Bool}
-use Rattle.std.specs.Cmp.Lexicographic.{nat_list_cmp_total, slice_cmp}
+use Rattle.std.specs.Cmp.Lexicographic.{nat_list_cmp_total}
 use Rattle.std.specs.FinMap as map_of
-use Rattle.std.specs.Ordering.{nat_cmp, eq_by_cmp}
+use Rattle.std.specs.Ordering.{eq_by_cmp}
 use Rattle.container_seg.specs.Lifespans.{is_fresh, left}
 use Rattle.container_seg.specs.Places.{key_cmp}
 use Rattle.container_seg.proofs.Trees.{exact_keys}
@@ -13,11 +13,10 @@ use Rattle.grid_event.specs.declared.event.Event.{Event}
 use Rattle.grid_event.specs.declared.event.Event.TheVariants.{Write, Erase, Depart, Tick}
 use Rattle.grid_event.specs.declared.store_events.EraseEvent.{EraseEvent}
 use Rattle.grid_event.specs.declared.store_events.WriteEvent.{WriteEvent}
-use Rattle.grid_event.specs.Maps.{ClusterMap, clock_of, entries_of, loses_key, stays}
+use Rattle.grid_event.specs.Maps.{clock_of, entries_of, loses_key, stays}
 use Rattle.grid_event.specs.Members.{loses_segment}
 use Rattle.segment_hash.specs.Segments.{segment_number}
 use Rattle.state_transfer.proofs.CellLaws.{tied_keys}
-use Rattle.topology_coord.specs.Coordination.{Coordination, loses}
 use Rattle.cluster_model.specs.Told.{Contents, contents_of, is_segment}
 
 -- the key of the segment has the value, or none
@@ -53,20 +52,20 @@ pub written_contents : (config : Config) (past : List Event) (w : WriteEvent) (s
     → contents_of config (Write w ∷ past) ≡ changed_contents s w.key (Some (record { value = w.value; until = w.until })) (contents_of config past)
 unfolding entries_of
 written_contents config past w s is = λ i t j. (
-  ap (λ o. cond (is_segment (segment_number config.partition config.segments j) t) o None) (map_of.get-insert nat_list_cmp_total (entries_of config past) w.key (record { value = w.value; until = w.until }) j)
-  ∙ set_one (segment_number config.partition config.segments j) s t (eq_by_cmp key_cmp j w.key) (Some (record { value = w.value; until = w.until })) (map_of.get (entries_of config past) j)
-  (λ same. ap (segment_number config.partition config.segments) (tied_keys j w.key same) ∙ is)
-) i
+    ap (λ o. cond (is_segment (segment_number config.partition config.segments j) t) o None) (map_of.get-insert nat_list_cmp_total (entries_of config past) w.key (record { value = w.value; until = w.until }) j)
+    ∙ set_one (segment_number config.partition config.segments j) s t (eq_by_cmp key_cmp j w.key) (Some (record { value = w.value; until = w.until })) (map_of.get (entries_of config past) j)
+    (λ same. ap (segment_number config.partition config.segments) (tied_keys j w.key same) ∙ is)
+    ) i
 
 -- an erasure removes its key
 pub erased_contents : (config : Config) (past : List Event) (e : EraseEvent) (s : ℕ) → segment_number config.partition config.segments e.key ≡ Some s
     → contents_of config (Erase e ∷ past) ≡ changed_contents s e.key None (contents_of config past)
 unfolding entries_of
 erased_contents config past e s is = λ i t j. (
-  ap (λ o. cond (is_segment (segment_number config.partition config.segments j) t) o None) (map_of.get-remove nat_list_cmp_total (entries_of config past) e.key j)
-  ∙ set_one (segment_number config.partition config.segments j) s t (eq_by_cmp key_cmp j e.key) None (map_of.get (entries_of config past) j)
-  (λ same. ap (segment_number config.partition config.segments) (tied_keys j e.key same) ∙ is)
-) i
+    ap (λ o. cond (is_segment (segment_number config.partition config.segments j) t) o None) (map_of.get-remove nat_list_cmp_total (entries_of config past) e.key j)
+    ∙ set_one (segment_number config.partition config.segments j) s t (eq_by_cmp key_cmp j e.key) None (map_of.get (entries_of config past) j)
+    (λ same. ap (segment_number config.partition config.segments) (tied_keys j e.key same) ∙ is)
+    ) i
 
 cond_none : (b : Bool) → cond {A = Option Stamped} b None None ≡ None
 cond_none true = refl
@@ -96,11 +95,11 @@ pub departed_contents : (config : Config) (past : List Event) (q : ℕ)
     → contents_of config (Depart q ∷ past) ≡ lost_contents (loses_segment config past q) (contents_of config past)
 unfolding entries_of
 departed_contents config past q = λ i t j. (
-  ap (λ o. cond (is_segment (segment_number config.partition config.segments j) t) o None)
-  (map_of.get-retain_keys (entries_of config past) (λ key. not (loses_key config past q (segment_number config.partition config.segments key))) j
-  (λ x e. ap (λ key. not (loses_key config past q (segment_number config.partition config.segments key))) (sym (exact_keys j x e))))
-  ∙ lost_key config past q t (segment_number config.partition config.segments j) (map_of.get (entries_of config past) j)
-) i
+    ap (λ o. cond (is_segment (segment_number config.partition config.segments j) t) o None)
+    (map_of.get-retain_keys (entries_of config past) (λ key. not (loses_key config past q (segment_number config.partition config.segments key))) j
+    (λ x e. ap (λ key. not (loses_key config past q (segment_number config.partition config.segments key))) (sym (exact_keys j x e))))
+    ∙ lost_key config past q t (segment_number config.partition config.segments j) (map_of.get (entries_of config past) j)
+    ) i
 
 -- a key that stays hasn't expired
 stays_fresh : (clock : ℕ) (o : Option Stamped) → stays clock o ≡ is_fresh clock o
@@ -120,9 +119,9 @@ pub ticked_contents_are : (config : Config) (past : List Event) (ticks : ℕ)
     → contents_of config (Tick ticks ∷ past) ≡ ticked_contents (clock_of past + ticks) (contents_of config past)
 unfolding entries_of
 ticked_contents_are config past ticks = λ i t j. (
-  ap (λ o. cond (is_segment (segment_number config.partition config.segments j) t) o None)
-  (map_of.get-retain_keys (entries_of config past) (λ key. stays (clock_of past + ticks) (map_of.get (entries_of config past) key)) j
-  (λ x e. ap (λ key. stays (clock_of past + ticks) (map_of.get (entries_of config past) key)) (sym (exact_keys j x e)))
-  ∙ ap (λ b. cond b (map_of.get (entries_of config past) j) None) (stays_fresh (clock_of past + ticks) (map_of.get (entries_of config past) j)))
-  ∙ left_here (clock_of past + ticks) (is_segment (segment_number config.partition config.segments j) t) (map_of.get (entries_of config past) j)
-) i
+    ap (λ o. cond (is_segment (segment_number config.partition config.segments j) t) o None)
+    (map_of.get-retain_keys (entries_of config past) (λ key. stays (clock_of past + ticks) (map_of.get (entries_of config past) key)) j
+    (λ x e. ap (λ key. stays (clock_of past + ticks) (map_of.get (entries_of config past) key)) (sym (exact_keys j x e)))
+    ∙ ap (λ b. cond b (map_of.get (entries_of config past) j) None) (stays_fresh (clock_of past + ticks) (map_of.get (entries_of config past) j)))
+    ∙ left_here (clock_of past + ticks) (is_segment (segment_number config.partition config.segments j) t) (map_of.get (entries_of config past) j)
+    ) i

@@ -1,6 +1,6 @@
 -- Each live holder keeps exactly the map's part, by each kind of event.
 use Rattle.std.proofs.Common.{◌≡◌, ℕ, ◌==◌, Bool, true, false, cond, not, ◌&&◌, ◌||◌, List, [], unwrap_or, Option, Some, None, is_none, is_some, refl, sym, ap, ◌∙◌, inl, inr}
-use Rattle.std.proofs.lemmas.Bool.{and_parts, and_from, eqb-true, or_cases, true≢false, false_from_ne_true, not_from_false}
+use Rattle.std.proofs.lemmas.Bool.{and_parts, and_from, eqb-true, or_cases, true≢false, not_from_false}
 use Rattle.std.specs.FinSet as set_of
 use Rattle.std.specs.List.{list_any}
 use Rattle.std.specs.Ordering.{eq_by_cmp}
@@ -10,7 +10,6 @@ use Rattle.container_seg.specs.Scans.{comes_after}
 use Rattle.grid_base.specs.Portion.{Portion}
 use Rattle.grid_base.specs.declared.stamped.Stamped.{Stamped}
 use Rattle.grid_base.specs.declared.stamped_entry.StampedEntry.{StampedEntry}
-use Rattle.state_transfer.specs.Cells.{Cells}
 use Rattle.state_transfer.specs.Changes.{changes, ticks}
 use Rattle.state_transfer.specs.Chunks.{lands, sends}
 use Rattle.state_transfer.specs.Copying.{Copying, Transfer, copy_at, has_ended, transfer_to}
@@ -32,7 +31,7 @@ use Rattle.topology_phase.proofs.Tables.{held_is_named, held_is_written}
 use Rattle.cluster_model.specs.Kept.{IsComplete, KeepsCopies, KeepsEmpty, KeepsTopologies, KeepsTransfers, Receives}
 use Rattle.cluster_model.specs.Told.{Contents}
 use Rattle.cluster_laws.proofs.ContentSteps.{changed_contents, lost_contents, ticked_contents}
-use Rattle.cluster_laws.proofs.Facts.{among-writers, receiver_not_held, turned, written_by}
+use Rattle.cluster_laws.proofs.Facts.{among-writers, receiver_not_held, written_by}
 
 -- a node that is written where the segment is changed has what the map has
 changed_alike : (w b c : Bool) (o a x : Option Stamped) → (b ≡ true → w ≡ true) → a ≡ x → cond (w && (b && c)) o a ≡ cond (b && c) o x

@@ -1,6 +1,6 @@
 -- A segment without a live holder stays empty, by each kind of event.
-use Rattle.std.proofs.Common.{◌≡◌, ℕ, ◌+◌, ◌==◌, Bool, true, false, cond, not, ◌&&◌, ◌||◌, List, Option, Some, None, is_some, refl, sym, ap, ◌∙◌, inl, inr}
-use Rattle.std.proofs.lemmas.Bool.{and_parts, and_from, eqb-true, or_right, true≢false, false_from_ne_true, not_from_false, cases_Bool}
+use Rattle.std.proofs.Common.{◌≡◌, ℕ, ◌==◌, Bool, true, false, cond, not, ◌&&◌, ◌||◌, List, Option, Some, None, is_some, refl, sym, ap, ◌∙◌, inl, inr}
+use Rattle.std.proofs.lemmas.Bool.{and_parts, and_from, or_right, true≢false, false_from_ne_true, not_from_false, cases_Bool}
 use Rattle.std.specs.FinSet as set_of
 use Rattle.std.specs.List.{list_any}
 use Rattle.std.specs.Ordering.{eq_by_cmp}
@@ -10,7 +10,7 @@ use Rattle.container_seg.specs.Places.{key_cmp}
 use Rattle.grid_base.specs.Portion.{Portion}
 use Rattle.grid_base.specs.declared.stamped.Stamped.{Stamped}
 use Rattle.grid_base.specs.declared.stamped_entry.StampedEntry.{StampedEntry}
-use Rattle.state_transfer.specs.Changes.{changes, marks, ticks, unexpired}
+use Rattle.state_transfer.specs.Changes.{changes, marks, ticks}
 use Rattle.state_transfer.specs.Chunks.{begun, lands, sends, with_chunk}
 use Rattle.state_transfer.specs.Copying.{Copying, Transfer, copy_at, transfer_to}
 use Rattle.state_transfer.specs.Leaving.{cancels, closes, drops, forgets, outlives, restarts}
@@ -24,7 +24,6 @@ use Rattle.topology_coord.proofs.MemberLaws.{lives-departs, lives-installs, live
 use Rattle.topology_phase.specs.Laws.{Follows}
 use Rattle.topology_phase.specs.Owners.{among}
 use Rattle.topology_phase.specs.Topologies.{Topology, holders, read_owners, write_owners}
-use Rattle.topology_phase.proofs.Mending.{any_of, some_of}
 use Rattle.cluster_model.specs.Kept.{HasNothing, KeepsEmpty, KeepsTopologies}
 use Rattle.cluster_model.specs.Told.{Contents}
 use Rattle.cluster_laws.proofs.ContentSteps.{changed_contents, lost_contents, ticked_contents}

@@ -1,9 +1,8 @@
 -- What the kept parts say of who reads, writes, holds and receives a segment.
-use Rattle.std.proofs.Common.{◌≡◌, ℕ, ◌==◌, Bool, true, false, cond, not, ◌&&◌, ◌||◌, ◌⊎◌, List, [], ◌∷◌, Option, Some, None, refl, sym, ap, ◌∙◌, inl, inr, unwrap_or}
-use Rattle.std.proofs.lemmas.Bool.{eqb-true, and_parts, true≢false, false_from_ne_true, true_from_ne_false}
+use Rattle.std.proofs.Common.{◌≡◌, ℕ, ◌==◌, Bool, true, false, cond, not, ◌&&◌, ◌||◌, List, Option, Some, None, refl, sym, ap, ◌∙◌, unwrap_or}
+use Rattle.std.proofs.lemmas.Bool.{eqb-true, true≢false, false_from_ne_true, true_from_ne_false}
 use Rattle.std.specs.List.{list_any}
 use Rattle.std.specs.Option.{option_map}
-use Rattle.grid_base.specs.declared.stamped.Stamped.{Stamped}
 use Rattle.state_transfer.specs.Copying.{Copying, Transfer, transfer_to}
 use Rattle.topology_coord.specs.Coordination.{Coordination, installed_id, live_of, lives, some_live, topology_of}
 use Rattle.topology_phase.specs.Laws.{IsSafe}
@@ -15,7 +14,7 @@ use Rattle.topology_phase.proofs.Mending.{any_of, some_of}
 use Rattle.topology_phase.proofs.NeighbourLaws.{joined_right}
 use Rattle.topology_phase.proofs.OwnerLists.{among-filter}
 use Rattle.topology_phase.proofs.Tables.{safe_alone}
-use Rattle.cluster_model.specs.Kept.{HasNothing, KeepsEmpty, KeepsTopologies, Receives}
+use Rattle.cluster_model.specs.Kept.{KeepsEmpty, KeepsTopologies, Receives}
 use Rattle.cluster_model.specs.Told.{Contents}
 
 -- ---- tests

@@ -1,4 +1,3 @@
-pub mod Pasts
 pub mod Lists
 pub mod Numbers
 pub mod UnitFacts
@@ -13,3 +12,10 @@ pub mod CopySteps
 pub mod TransferSteps
 pub mod UnitPlaces
 pub mod PlaceKinds
+pub mod SameChunks
+pub mod Requests
+pub mod Histories
+pub mod Starts
+pub mod Runs
+pub mod Batches
+pub mod CompletionRuns

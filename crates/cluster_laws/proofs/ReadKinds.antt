@@ -30,13 +30,14 @@ use Rattle.cluster_laws.proofs.Reading.{BatchOf, ReadOf, begun_reading, carried,
 use Rattle.cluster_laws.proofs.ReadSteps.{IsAside, IsAsideOthers, KeepsNamed, ReadKept, UnitsKept, asks_units, loses_units, named_one, names_unit, stays, still}
 use Rattle.cluster_laws.proofs.UnitFacts.{each_named, named_within}
 
--- what the node of each running unit would hand on next is a batch of the cluster's map
+-- what the node of a running unit would hand on next is a batch of the cluster's map; and so it is of each unit
+abbrev pub ShownOne : Config → List Event → State → Unit → Type 0
+ShownOne config past st unit =
+    is_running unit.work.state ≡ true
+    → BatchOf config past unit.work.segment unit.work.node unit.work.entries (next_batch st unit).entries (next_batch st unit).last
+
 abbrev pub Shown : Config → List Event → State → Type 0
-Shown config past st =
-    AllByRecursion
-    (λ (unit : Unit). is_running unit.work.state ≡ true →
-    BatchOf config past unit.work.segment unit.work.node unit.work.entries (next_batch st unit).entries (next_batch st unit).last)
-    st.units
+Shown config past st = AllByRecursion (ShownOne config past st) st.units
 
 -- the same batches are equal
 same_flags : (a b : Bool) → beq a b ≡ true → a ≡ b

@@ -1,9 +1,9 @@
 -- Topologies are kept by each event that changes them; the others leave them as they are.
-use Rattle.std.proofs.Common.{◌≡◌, ℕ, ◌+◌, ◌<◌, ◌==◌, Bool, true, false, cond, not, ◌&&◌, ◌||◌, ◌⊎◌, List, [], ◌∷◌, length, refl, sym, ap, subst, ◌∙◌, inl, inr, arith}
-use Rattle.std.proofs.lemmas.Bool.{and_parts, eq-eqb, eqb-true, or_cases, or_right, true≢false, false_from_ne_true, cases_Bool}
+use Rattle.std.proofs.Common.{◌≡◌, ℕ, ◌==◌, Bool, true, false, cond, not, ◌||◌, ◌⊎◌, refl, sym, ap, ◌∙◌, inl, inr}
+use Rattle.std.proofs.lemmas.Bool.{and_parts, eqb-true, or_cases, or_right, true≢false}
 use Rattle.std.specs.FinSet as set_of
 use Rattle.topology_coord.specs.Changes.{announces, departs, installs, joins, may_depart, may_install, may_join}
-use Rattle.topology_coord.specs.Coordination.{Coordination, installed_id, live_nodes, lives, topology_of}
+use Rattle.topology_coord.specs.Coordination.{Coordination, installed_id, lives}
 use Rattle.topology_coord.proofs.MemberLaws.{has_newest, installed-departs, installed-installs, installed-joins, lives-departs, lives-installs, lives-joins, member-joins, some-departs, some-installs, some-joins}
 use Rattle.topology_coord.proofs.NextLaws.{IsNext, next_follows}
 use Rattle.topology_phase.specs.Laws.{Follows, Names}

@@ -1,6 +1,6 @@
 -- Each transfer stays sound, by each kind of event.
-use Rattle.std.proofs.Common.{◌≡◌, ℕ, ◌==◌, Bool, true, false, cond, not, ◌&&◌, ◌||◌, ◌⊎◌, List, [], Option, Some, None, is_none, is_some, unwrap_or, refl, sym, ap, subst, ◌∙◌, inl, inr}
-use Rattle.std.proofs.lemmas.Bool.{and_parts, and_from, and_cases, eqb-true, eq-eqb, or_cases, or_right, true≢false, false_from_ne_true, not_from_false, cases_Bool}
+use Rattle.std.proofs.Common.{◌≡◌, ℕ, ◌==◌, Bool, true, false, cond, not, ◌&&◌, ◌||◌, List, [], Option, Some, None, is_none, is_some, unwrap_or, refl, sym, ap, subst, ◌∙◌, inl, inr}
+use Rattle.std.proofs.lemmas.Bool.{and_parts, and_from, eqb-true, eq-eqb, or_cases, or_right, true≢false, not_from_false, cases_Bool}
 use Rattle.std.specs.Cmp.{nat_eq_equiv}
 use Rattle.std.specs.FinSet as set_of
 use Rattle.std.specs.Option.{option_map}
@@ -15,23 +15,23 @@ use Rattle.state_transfer.specs.Cells.{Cells, Keys}
 use Rattle.state_transfer.specs.Changes.{changes, marks, ticks, unexpired}
 use Rattle.state_transfer.specs.Chunks.{begun, lands, last_sent, may_send, sends, sent_of, with_chunk}
 use Rattle.state_transfer.specs.Copying.{Copying, Transfer, Transfers, copy_at, has_ended, transfer_to}
-use Rattle.state_transfer.specs.Faithful.{IsFaithful, IsFaithfulAt, flying_of, has_each_once, stamped_in}
+use Rattle.state_transfer.specs.Faithful.{IsFaithful, flying_of, has_each_once, stamped_in}
 use Rattle.state_transfer.specs.Leaving.{cancels, closes, drops, forgets, outlives, restarts}
 use Rattle.state_transfer.proofs.CellLaws.{contains-touched, either, once-unexpired, stamped-unexpired, to}
 use Rattle.state_transfer.proofs.ChunkLaws.{IsChunk}
 use Rattle.state_transfer.proofs.FaithfulLaws.{faithful_change, faithful_copy, faithful_land, faithful_start, faithful_tick}
-use Rattle.state_transfer.proofs.LeavingLaws.{cells-closes, copy-departs, copy-drops, remains, transfer-closes, transfer-departs, transfer-drops}
+use Rattle.state_transfer.proofs.LeavingLaws.{copy-departs, copy-drops, transfer-closes, transfer-departs, transfer-drops}
 use Rattle.state_transfer.proofs.StepLaws.{copy-changes, copy-lands, copy-sends, copy-ticks, emptied, thinned, transfer-changes, transfer-lands, transfer-sends, transfer-ticks}
 use Rattle.topology_coord.specs.Changes.{announces, departs, installs, joins}
 use Rattle.topology_coord.specs.Coordination.{Coordination, live_of, lives, loses, some_live, topology_of}
-use Rattle.topology_coord.proofs.MemberLaws.{lives-departs, lives-installs, lives-joins, topology-announces, topology-departs, topology-installs, topology-joins}
+use Rattle.topology_coord.proofs.MemberLaws.{lives-departs, lives-installs, lives-joins, topology-departs, topology-installs, topology-joins}
 use Rattle.topology_phase.specs.Laws.{Follows}
 use Rattle.topology_phase.specs.Owners.{among, owners_at}
 use Rattle.topology_phase.specs.Phases.{same_phase}
-use Rattle.topology_phase.specs.Topologies.{Topology, holders, read_owners, write_owners}
+use Rattle.topology_phase.specs.Topologies.{Topology, write_owners}
 use Rattle.topology_phase.specs.declared.phase.Phase.TheVariants.{ReadOld}
 use Rattle.topology_phase.proofs.SameTopologies.{same_phase_is}
-use Rattle.cluster_model.specs.Kept.{HasNothing, IsSound, KeepsCopies, KeepsEmpty, KeepsTopologies, KeepsTransfers, Receives}
+use Rattle.cluster_model.specs.Kept.{IsSound, KeepsEmpty, KeepsTransfers, Receives}
 use Rattle.cluster_model.specs.Told.{Contents}
 use Rattle.cluster_laws.proofs.ContentSteps.{changed_contents, lost_contents, ticked_contents}
 use Rattle.cluster_laws.proofs.Facts.{among-writers, changed_some, holders_old, receiver_written, transfer_held, turned}
@@ -40,6 +40,19 @@ use Rattle.cluster_laws.proofs.Facts.{among-writers, changed_some, holders_old, 
 pub faithful_as : (t p l : Bool) (f a b : Option Stamped) (t2 : Bool) (f2 a2 b2 : Option Stamped) → t ≡ t2 → f ≡ f2 → a ≡ a2 → b ≡ b2 → IsFaithful t p l f a b → IsFaithful t2 p l f2 a2 b2
 faithful_as t p l f a b t2 f2 a2 b2 ts fs as_ bs h =
     subst (λ x. IsFaithful t2 p l f2 a2 x) bs (subst (λ x. IsFaithful t2 p l f2 x b) as_ (subst (λ x. IsFaithful t2 p l x a b) fs (subst (λ x. IsFaithful x p l f a b) ts h)))
+
+-- what is known where a chunk is sent: the receiver lives and receives the segment, by the topology that all have; a transfer that is
+-- there goes on, with nothing flying, and is provided by the node; the node lives, owns the segment, and has what the map has of it;
+-- and the chunk is the next one
+pub record IsSending (c : Coordination) (p : Copying) (m : Contents) (r s q : ℕ) (chunk : Portion StampedEntry) (found : Option Transfer) : Type 0 where
+  pub live : lives c r ≡ true
+  pub receives : Receives c.newest r s
+  pub everywhere : (n : ℕ) → lives c n ≡ true → Receives (topology_of c n) r s
+  pub may : may_send found ≡ true
+  pub provider : (v : Transfer) → found ≡ Some v → v.provider ≡ q
+  pub provides : (lives c q ≡ true) × (among q (owners_at c.newest.current s) ≡ true)
+  pub right : (j : List ℕ) → copy_at p.cells q s j ≡ m s j
+  pub next : IsChunk p.cells q s (sent_of found) chunk
 
 -- ---- writes and erasures
 
@@ -135,6 +148,7 @@ module _ (c : Coordination) (p : Copying) (m : Contents) (h : KeepsTransfers c p
         | inl same ↦ absurd (true≢false (sym same ∙ other))
         | inr lived ↦ lived
       ]
+
       stays : (a b : Bool) → (a ≡ true → b ≡ true) → not (a && not b) ≡ true
       stays true true f = refl
       stays true false f = absurd (true≢false (sym (f refl)))
@@ -206,20 +220,20 @@ module _ (c : Coordination) (p : Copying) (m : Contents) (h : KeepsTransfers c p
           elim (follows.receives phase) [
             | inl still ↦ (let first = sound.receives.phase in absurd (cc))
             | inr goes ↦ (
-              let keeps = goes.1 t (ap (some_live c) (sym (holders_old c.newest t goes.0)) ∙ transfer_held c p m r t v empty is) in
-              record {
-                live = sound.live;
-                receives = record {
-                  phase = phase;
-                  pending = keeps.pending r sound.live sound.receives.pending;
-                  current = keeps.current r sound.live ∙ sound.receives.current;
-                };
-                everywhere = λ n l. subst (λ x. Receives x r t) (sym (then n l)) sound.receives;
-                provided = λ going. (let there = sound.provided going in (there.0, keeps.current v.provider there.0 ∙ there.1));
-                once = sound.once;
-                faithful = sound.faithful;
-              }
-            )
+                let keeps = goes.1 t (ap (some_live c) (sym (holders_old c.newest t goes.0)) ∙ transfer_held c p m r t v empty is) in
+                record {
+                  live = sound.live;
+                  receives = record {
+                    phase = phase;
+                    pending = keeps.pending r sound.live sound.receives.pending;
+                    current = keeps.current r sound.live ∙ sound.receives.current;
+                  };
+                  everywhere = λ n l. subst (λ x. Receives x r t) (sym (then n l)) sound.receives;
+                  provided = λ going. (let there = sound.provided going in (there.0, keeps.current v.provider there.0 ∙ there.1));
+                  once = sound.once;
+                  faithful = sound.faithful;
+                }
+                )
           ]
 
   -- ---- landings and ticks
@@ -246,18 +260,18 @@ module _ (c : Coordination) (p : Copying) (m : Contents) (h : KeepsTransfers c p
         once = once_emptied ((q == r) && (t == s)) v.flying sound.once;
         faithful = λ j. elim (cases_Bool ((q == r) && (t == s))) [
           | inl here ↦ (
-            let places = and_parts (q == r) (t == s) here in
-            let same : u ≡ v = ap (λ o. unwrap_or o u) (sym there ∙ (λ i. transfer_to p.transfers (sym (eqb-true q r places.0) i) (sym (eqb-true t s places.1) i)) ∙ from.1) in
-            let back : ((r == q) && (t == s)) ≡ true = and_from (r == q) (t == s) (eq-eqb r q (sym (eqb-true q r places.0))) places.1 in
-            faithful_as (set_of.contains v.touched j) (comes_after v.provider v.sent j) v.last None
-            (cond (not (set_of.contains v.touched j)) (either (stamped_in (flying_of v) j) (copy_at p.cells q t j)) (copy_at p.cells q t j)) (m t j)
-            (set_of.contains v.touched j) (stamped_in (unwrap_or (cond ((q == r) && (t == s)) None v.flying) []) j) (copy_at (lands r s p).cells q t j) (m t j)
-            refl
-            (ap (λ b. stamped_in (unwrap_or (cond b None v.flying) []) j) (sym here))
-            (sym (copy-lands r s u p there q t j ∙ (λ i. cond (back i && not (set_of.contains (same i).touched j)) (either (stamped_in (flying_of (same i)) j) (copy_at p.cells q t j)) (copy_at p.cells q t j))))
-            refl
-            (faithful_land (set_of.contains v.touched j) (comes_after v.provider v.sent j) v.last (stamped_in (flying_of v) j) (copy_at p.cells q t j) (m t j) (sound.faithful j))
-          )
+              let places = and_parts (q == r) (t == s) here in
+              let same : u ≡ v = ap (λ o. unwrap_or o u) (sym there ∙ (λ i. transfer_to p.transfers (sym (eqb-true q r places.0) i) (sym (eqb-true t s places.1) i)) ∙ from.1) in
+              let back : ((r == q) && (t == s)) ≡ true = and_from (r == q) (t == s) (eq-eqb r q (sym (eqb-true q r places.0))) places.1 in
+              faithful_as (set_of.contains v.touched j) (comes_after v.provider v.sent j) v.last None
+              (cond (not (set_of.contains v.touched j)) (either (stamped_in (flying_of v) j) (copy_at p.cells q t j)) (copy_at p.cells q t j)) (m t j)
+              (set_of.contains v.touched j) (stamped_in (unwrap_or (cond ((q == r) && (t == s)) None v.flying) []) j) (copy_at (lands r s p).cells q t j) (m t j)
+              refl
+              (ap (λ b. stamped_in (unwrap_or (cond b None v.flying) []) j) (sym here))
+              (sym (copy-lands r s u p there q t j ∙ (λ i. cond (back i && not (set_of.contains (same i).touched j)) (either (stamped_in (flying_of (same i)) j) (copy_at p.cells q t j)) (copy_at p.cells q t j))))
+              refl
+              (faithful_land (set_of.contains v.touched j) (comes_after v.provider v.sent j) v.last (stamped_in (flying_of v) j) (copy_at p.cells q t j) (m t j) (sound.faithful j))
+              )
           | inr away ↦
               faithful_as (set_of.contains v.touched j) (comes_after v.provider v.sent j) v.last (stamped_in (flying_of v) j) (copy_at p.cells q t j) (m t j)
               (set_of.contains v.touched j) (stamped_in (unwrap_or (cond ((q == r) && (t == s)) None v.flying) []) j) (copy_at (lands r s p).cells q t j) (m t j)
@@ -271,9 +285,11 @@ module _ (c : Coordination) (p : Copying) (m : Contents) (h : KeepsTransfers c p
       once_emptied : (b : Bool) (flying : Option (List StampedEntry)) → has_each_once (unwrap_or flying []) ≡ true → has_each_once (unwrap_or (cond b None flying) []) ≡ true
       once_emptied true flying e = refl
       once_emptied false flying e = e
+
       elsewhere : (a b : Bool) (x y : Option Stamped) → a ≡ false → cond (a && not b) x y ≡ y
       elsewhere true b x y e = absurd (true≢false e)
       elsewhere false b x y e = refl
+
       flip_away : ((q == r) && (t == s)) ≡ false → ((r == q) && (t == s)) ≡ false
       flip_away away = ap (λ b. b && (t == s)) (nat_eq_equiv.symm r q) ∙ away
 
@@ -311,21 +327,8 @@ module _ (c : Coordination) (p : Copying) (m : Contents) (h : KeepsTransfers c p
 
   -- ---- chunks that are sent
 
-  -- what is known where a chunk is sent: the receiver lives and receives the segment, by the topology that all have; a transfer that is
-  -- there goes on, with nothing flying, and is provided by the node; the node lives, owns the segment, and has what the map has of it;
-  -- and the chunk is the next one
-  pub record IsSending (r s q : ℕ) (chunk : Portion StampedEntry) (found : Option Transfer) : Type 0 where
-    pub live : lives c r ≡ true
-    pub receives : Receives c.newest r s
-    pub everywhere : (n : ℕ) → lives c n ≡ true → Receives (topology_of c n) r s
-    pub may : may_send found ≡ true
-    pub provider : (v : Transfer) → found ≡ Some v → v.provider ≡ q
-    pub provides : (lives c q ≡ true) × (among q (owners_at c.newest.current s) ≡ true)
-    pub right : (j : List ℕ) → copy_at p.cells q s j ≡ m s j
-    pub next : IsChunk p.cells q s (sent_of found) chunk
-
   -- the cells are as they were where a transfer was there, and else the receiver's copies of the segment are gone
-  sound_chunk : (r s q : ℕ) (chunk : Portion StampedEntry) (found : Option Transfer) → transfer_to p.transfers r s ≡ found → IsSending r s q chunk found
+  sound_chunk : (r s q : ℕ) (chunk : Portion StampedEntry) (found : Option Transfer) → transfer_to p.transfers r s ≡ found → IsSending c p m r s q chunk found
       → (cells : Cells) → ((j : List ℕ) → copy_at cells r s j ≡ cond (is_some found || false) (copy_at p.cells r s j) None) → IsSound c cells m r s (with_chunk chunk (begun found q))
   sound_chunk r s q chunk None is go cells held = record {
     live = go.live;
@@ -363,31 +366,31 @@ module _ (c : Coordination) (p : Copying) (m : Contents) (h : KeepsTransfers c p
       none_flies (Some es) j e = absurd (cc)
 
   -- a chunk is sent: it has what the map has between the last key sent before and the last key sent now
-  pub copied_transfers : (r s q : ℕ) (chunk : Portion StampedEntry) → IsSending r s q chunk (transfer_to p.transfers r s) → KeepsTransfers c (sends r s q chunk p).cells (sends r s q chunk p).transfers m
+  pub copied_transfers : (r s q : ℕ) (chunk : Portion StampedEntry) → IsSending c p m r s q chunk (transfer_to p.transfers r s) → KeepsTransfers c (sends r s q chunk p).cells (sends r s q chunk p).transfers m
   copied_transfers r s q chunk go x t w is = elim (cases_Bool ((x == r) && (t == s))) [
     | inl here ↦ (
-      let places = and_parts (x == r) (t == s) here in
-      let put : with_chunk chunk (begun (transfer_to p.transfers r s) q) ≡ w = ap (λ o. unwrap_or o w) (ap (λ b. cond b (Some (with_chunk chunk (begun (transfer_to p.transfers r s) q))) (transfer_to p.transfers x t)) (sym here) ∙ sym (transfer-sends r s q chunk p x t) ∙ is) in
-      let sound = sound_chunk r s q chunk (transfer_to p.transfers r s) refl go (sends r s q chunk p).cells
-      (λ j. copy-sends r s q chunk p r s j ∙ ap (λ b. cond (is_some (transfer_to p.transfers r s) || not b) (copy_at p.cells r s j) None) (and_from (r == r) (s == s) (eq-eqb r r refl) (eq-eqb s s refl))) in
-      subst (λ y. IsSound c (sends r s q chunk p).cells m x t y) put
-      (subst (λ y. IsSound c (sends r s q chunk p).cells m x y (with_chunk chunk (begun (transfer_to p.transfers r s) q))) (sym (eqb-true t s places.1))
-      (subst (λ y. IsSound c (sends r s q chunk p).cells m y s (with_chunk chunk (begun (transfer_to p.transfers r s) q))) (sym (eqb-true x r places.0)) sound))
-    )
+        let places = and_parts (x == r) (t == s) here in
+        let put : with_chunk chunk (begun (transfer_to p.transfers r s) q) ≡ w = ap (λ o. unwrap_or o w) (ap (λ b. cond b (Some (with_chunk chunk (begun (transfer_to p.transfers r s) q))) (transfer_to p.transfers x t)) (sym here) ∙ sym (transfer-sends r s q chunk p x t) ∙ is) in
+        let sound = sound_chunk r s q chunk (transfer_to p.transfers r s) refl go (sends r s q chunk p).cells
+        (λ j. copy-sends r s q chunk p r s j ∙ ap (λ b. cond (is_some (transfer_to p.transfers r s) || not b) (copy_at p.cells r s j) None) (and_from (r == r) (s == s) (eq-eqb r r refl) (eq-eqb s s refl))) in
+        subst (λ y. IsSound c (sends r s q chunk p).cells m x t y) put
+        (subst (λ y. IsSound c (sends r s q chunk p).cells m x y (with_chunk chunk (begun (transfer_to p.transfers r s) q))) (sym (eqb-true t s places.1))
+        (subst (λ y. IsSound c (sends r s q chunk p).cells m y s (with_chunk chunk (begun (transfer_to p.transfers r s) q))) (sym (eqb-true x r places.0)) sound))
+        )
     | inr away ↦ (
-      let sound : IsSound c p.cells m x t w = h x t w (ap (λ b. cond b (Some (with_chunk chunk (begun (transfer_to p.transfers r s) q))) (transfer_to p.transfers x t)) (sym away) ∙ sym (transfer-sends r s q chunk p x t) ∙ is) in
-      record {
-        live = sound.live;
-        receives = sound.receives;
-        everywhere = sound.everywhere;
-        provided = sound.provided;
-        once = sound.once;
-        faithful = λ j.
-            subst (λ o. IsFaithful (set_of.contains w.touched j) (comes_after w.provider w.sent j) w.last (stamped_in (flying_of w) j) o (m t j))
-            (sym (copy-sends r s q chunk p x t j ∙ elsewhere (is_some (transfer_to p.transfers r s)) ((x == r) && (t == s)) (copy_at p.cells x t j) away))
-            (sound.faithful j);
-      }
-    )
+        let sound : IsSound c p.cells m x t w = h x t w (ap (λ b. cond b (Some (with_chunk chunk (begun (transfer_to p.transfers r s) q))) (transfer_to p.transfers x t)) (sym away) ∙ sym (transfer-sends r s q chunk p x t) ∙ is) in
+        record {
+          live = sound.live;
+          receives = sound.receives;
+          everywhere = sound.everywhere;
+          provided = sound.provided;
+          once = sound.once;
+          faithful = λ j.
+              subst (λ o. IsFaithful (set_of.contains w.touched j) (comes_after w.provider w.sent j) w.last (stamped_in (flying_of w) j) o (m t j))
+              (sym (copy-sends r s q chunk p x t j ∙ elsewhere (is_some (transfer_to p.transfers r s)) ((x == r) && (t == s)) (copy_at p.cells x t j) away))
+              (sound.faithful j);
+        }
+        )
   ]
     where
       elsewhere : (a b : Bool) (o : Option Stamped) → b ≡ false → cond (a || not b) o None ≡ o

@@ -3,4 +3,4 @@
 
 mod laws;
 
-pub use laws::{copies_hold, events_keep_all, events_tell_the_state};
+pub use laws::{copies_hold, events_keep_all, events_tell_the_state, units_are_completed};

@@ -1,5 +1,5 @@
 -- Calls and their rounds.
-use Rattle.std.specs.Prelude.{ℕ, ◌+◌, ◌==◌, Bool, true, false, not, nat_lt, nat_le, ◌&&◌, List, [], ◌∷◌, ◌++◌, map, length, Option, None, Some, is_none, is_ok, unwrap_or}
+use Rattle.std.specs.Prelude.{ℕ, ◌+◌, ◌==◌, Bool, false, not, nat_lt, nat_le, ◌&&◌, List, [], ◌∷◌, ◌++◌, map, length, Option, None, Some, is_none, is_ok, unwrap_or}
 use Rattle.std.specs.List.{filter, list_all, list_any}
 use Rattle.std.specs.FinMap as map_of
 use Rattle.std.specs.FinSet as set_of

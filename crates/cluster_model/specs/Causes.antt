@@ -1,7 +1,7 @@
 -- Why a call ended as it did. A past lists events, the newest first.
-use Rattle.std.specs.Prelude.{◌≡◌, ℕ, ◌+◌, ◌==◌, ◌<◌, Bool, true, false, not, nat_lt, nat_le, ◌&&◌, ◌||◌, if◌then◌else◌, List, [], ◌∷◌, ◌++◌, Option, None, Some}
+use Rattle.std.specs.Prelude.{◌≡◌, ℕ, ◌+◌, ◌==◌, Bool, true, false, not, nat_lt, ◌&&◌, ◌||◌, if◌then◌else◌, List, [], ◌∷◌, ◌++◌, Option, None, Some}
 use Rattle.std.specs.Bool.{⊤}
-use Rattle.std.specs.List.{filter, list_all, list_any, range_with_len}
+use Rattle.std.specs.List.{list_all, list_any, range_with_len}
 use Rattle.delivery_mode.specs.Guarantee.{asks_again}
 use Rattle.grid_event.specs.Members.{installed_topology, is_live, live_members, loses_segment, newest_topology}
 use Rattle.grid_event.specs.Spans.{before_answer, invoke_of, invokes, outcome_in, since_invoke, span_end}

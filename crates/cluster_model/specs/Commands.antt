@@ -1,8 +1,7 @@
 -- The event that a command chooses.
-use Rattle.std.specs.Prelude.{ℕ, ◌+◌, ◌==◌, Bool, true, false, not, ◌&&◌, ◌||◌, if◌then◌else◌, List, [], ◌∷◌, map, reverse, Option, None, Some, is_none}
+use Rattle.std.specs.Prelude.{ℕ, ◌+◌, ◌==◌, Bool, false, ◌&&◌, if◌then◌else◌, List, [], ◌∷◌, map, reverse, Option, None, Some, is_none}
 use Rattle.std.specs.Option.{option_map, option_and_then}
-use Rattle.std.specs.List.{filter, find, flat_map, range_with_len}
-use Rattle.std.specs.FinMap as map_of
+use Rattle.std.specs.List.{filter, find, flat_map}
 use Rattle.grid_base.specs.declared.entry.Entry.{Entry}
 use Rattle.grid_event.specs.declared.command.Command.{Command}
 use Rattle.grid_event.specs.declared.command.Command.TheVariants.{Put, Erase, Tick, Join, Depart, Announce, Install, Copy, Land, Call, Round, Begin, Scan, Fetch, Take, Done, Answer, Advance, Drive, Serve}
@@ -16,7 +15,7 @@ use Rattle.cluster_model.specs.State as states
 use Rattle.cluster_model.specs.Topologies.{next_topology}
 use Rattle.cluster_model.specs.Transfers.{next_chunk_of, provider}
 use Rattle.cluster_model.specs.Calls.{asks_of}
-use Rattle.cluster_model.specs.Units.{call_of_unit, further_items, next_batch, passing, reads, walks}
+use Rattle.cluster_model.specs.Units.{further_items, next_batch, passing, reads, walks}
 use Rattle.cluster_model.specs.Answers.{outcome_of}
 use Rattle.cluster_model.specs.Step.{allowed}
 

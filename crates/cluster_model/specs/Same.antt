@@ -1,11 +1,10 @@
 -- When two batches, chunks, lists of asks, answers and outcomes are the same.
-use Rattle.std.specs.Prelude.{ℕ, ◌==◌, Bool, true, false, ◌&&◌, List, Option, None, Some}
+use Rattle.std.specs.Prelude.{◌==◌, Bool, true, false, ◌&&◌, List, Option, None, Some}
 use Rattle.std.specs.Bool.{beq}
 use Rattle.std.specs.Ordering.{int_eq}
 use Rattle.std.specs.Cmp.Lexicographic.{pointwise}
 use Rattle.grid_base.specs.Datum.{same_bytes, same_datum, same_entry, same_item}
 use Rattle.grid_base.specs.Portion.{Portion}
-use Rattle.grid_base.specs.declared.datum.Datum.{Datum}
 use Rattle.grid_base.specs.declared.entry.Entry.{Entry}
 use Rattle.grid_base.specs.declared.item.Item.{Item}
 use Rattle.grid_base.specs.declared.stamped_entry.StampedEntry.{StampedEntry}

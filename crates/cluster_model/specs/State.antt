@@ -5,7 +5,7 @@ use Rattle.std.specs.Ordering.{nat_cmp}
 use Rattle.std.specs.FinMap as map_of
 use Rattle.std.specs.FinSet as set_of
 use Rattle.delivery_mode.specs.declared.guarantee.Guarantee.{Guarantee}
-use Rattle.delivery_mode.specs.declared.guarantee.Guarantee.TheVariants.{Exact, AtLeast, AtMost}
+use Rattle.delivery_mode.specs.declared.guarantee.Guarantee.TheVariants.{Exact}
 use Rattle.grid_base.specs.declared.entry.Entry.{Entry}
 use Rattle.grid_event.specs.declared.config.Config.{Config}
 use Rattle.grid_event.specs.declared.outcome.Outcome.{Outcome}
@@ -14,7 +14,7 @@ use Rattle.local_publisher.specs.Stages.{is_open}
 use Rattle.local_publisher.specs.Units.{lost}
 use Rattle.local_publisher.specs.Work.{Work}
 use Rattle.local_publisher.specs.declared.unit_state.UnitState.{UnitState}
-use Rattle.local_publisher.specs.declared.unit_state.UnitState.TheVariants.{Asked, Running, Refused, Lost, Ended}
+use Rattle.local_publisher.specs.declared.unit_state.UnitState.TheVariants.{Asked, Running, Lost, Ended}
 use Rattle.pipeline_expr.specs.declared.end.End.{End}
 use Rattle.pipeline_expr.specs.declared.end.End.TheVariants as ends
 use Rattle.segment_hash.specs.Segments.{segment_number}

@@ -1,10 +1,8 @@
 -- What stands in a cell, and which transfer leads to a place, after each change.
-use Rattle.std.proofs.Common.{◌≡◌, ℕ, Bool, true, false, cond, not, ◌&&◌, ◌||◌, ◌==◌, List, [], ◌∷◌, map, filter, Option, Some, None, is_some, is_none, refl, sym, ap, subst, ◌∙◌, unwrap_or}
+use Rattle.std.proofs.Common.{◌≡◌, ℕ, Bool, true, false, cond, not, ◌&&◌, ◌||◌, ◌==◌, List, [], ◌∷◌, Option, Some, None, is_none, refl, sym, ap, ◌∙◌, unwrap_or}
 use Rattle.std.proofs.lemmas.Bool.{and_parts, true≢false}
-use Rattle.std.specs.Cmp.{IsTotalOrder, then_total, on_total, tied_then, Equal-is, nat_cmp_total, unsigned_tied, nat_eq_equiv, tied_itself}
+use Rattle.std.specs.Cmp.{IsTotalOrder, then_total, on_total, tied_then, Equal-is, nat_cmp_total, unsigned_tied, nat_eq_equiv}
 use Rattle.std.specs.Cmp.Lexicographic.{nat_list_cmp_total}
-use Rattle.std.specs.declared.cmp.Ordering.{Ordering}
-use Rattle.std.specs.declared.cmp.Ordering.TheVariants.{Less, Equal, Greater}
 use Rattle.std.specs.FinMap as map_of
 use Rattle.std.specs.FinMap.{IsAntisymmetric, nat_cmp-IsAntisymmetric}
 use Rattle.std.specs.FinSet as set_of

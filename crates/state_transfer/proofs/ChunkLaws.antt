@@ -1,9 +1,9 @@
 -- What a chunk of a provider has, by look-ups.
-use Rattle.std.proofs.Common.{◌≡◌, ℕ, suc, zero, ◌≤◌, Bool, true, false, cond, not, ◌&&◌, ◌||◌, ◌==◌, T, List, [], ◌∷◌, ◌++◌, map, reverse, filter, take, length, nat_le, Option, Some, None, is_none, refl, sym, ap, subst, ◌∙◌, take_all}
-use Rattle.std.proofs.lemmas.Bool.{and_parts, and_from, eqb-true, true≢false, leb-true, false_from_ne_true, cases_Bool}
+use Rattle.std.proofs.Common.{◌≡◌, ℕ, suc, zero, Bool, true, false, cond, not, ◌&&◌, ◌==◌, T, List, [], ◌∷◌, ◌++◌, map, reverse, filter, take, length, Option, Some, None, is_none, refl, sym, ap, subst, ◌∙◌, take_all}
+use Rattle.std.proofs.lemmas.Bool.{and_parts, and_from, eqb-true, true≢false, leb-true, false_from_ne_true}
 use Rattle.std.proofs.lemmas.List.{reverse-append}
 use Rattle.std.proofs.lemmas.List.Folds.{list_all-append}
-use Rattle.std.specs.Cmp.{Equal-is, nat_cmp_total, nat_eq_equiv, tied_itself}
+use Rattle.std.specs.Cmp.{nat_cmp_total, nat_eq_equiv, tied_itself}
 use Rattle.std.specs.Cmp.Lexicographic.{nat_list_cmp_total}
 use Rattle.std.specs.declared.cmp.Ordering.{Ordering}
 use Rattle.std.specs.declared.cmp.Ordering.TheVariants.{Less, Equal, Greater}
@@ -56,8 +56,8 @@ cond_none false = refl
 abbrev here : ℕ → ℕ → Cell × Stamped → Bool
 here n s c = (c.0.node == n) && (c.0.segment == s)
 
-abbrev entry : Cell × Stamped → List ℕ × Stamped
-entry c = (c.0.key, c.1)
+abbrev keyed : Cell × Stamped → List ℕ × Stamped
+keyed c = (c.0.key, c.1)
 
 same_here : (n s : ℕ) (k : List ℕ) (c : Cell × Stamped) → eq_by_cmp cell_cmp (cell n s k) c.0 ≡ (here n s c && eq_by_cmp key_cmp k c.0.key)
 same_here n s k c =
@@ -69,10 +69,10 @@ same_here n s k c =
     regrouped true b c = refl
     regrouped false b c = refl
 
-found_here : (n s : ℕ) (k : List ℕ) (cs : List (Cell × Stamped)) → found k (map entry (filter (here n s) cs)) ≡ map_of.find cell_cmp (cell n s k) cs
+found_here : (n s : ℕ) (k : List ℕ) (cs : List (Cell × Stamped)) → found k (map keyed (filter (here n s) cs)) ≡ map_of.find cell_cmp (cell n s k) cs
 found_here n s k [] = refl
 found_here n s k (c ∷ cs) =
-    elim (here n s c) as (λ b. found k (map entry (cond b (c ∷ filter (here n s) cs) (filter (here n s) cs))) ≡ cond (b && eq_by_cmp key_cmp k c.0.key) (Some c.1) (map_of.find cell_cmp (cell n s k) cs)) [
+    elim (here n s c) as (λ b. found k (map keyed (cond b (c ∷ filter (here n s) cs) (filter (here n s) cs))) ≡ cond (b && eq_by_cmp key_cmp k c.0.key) (Some c.1) (map_of.find cell_cmp (cell n s k) cs)) [
       | true ↦ ap (cond (eq_by_cmp key_cmp k c.0.key) (Some c.1)) (found_here n s k cs)
       | false ↦ found_here n s k cs
     ]
@@ -93,22 +93,22 @@ ordered_here n s c d hc hd less =
     let segment_tie : nat_cmp c.0.segment d.0.segment ≡ Equal = ap (nat_cmp c.0.segment) (sym segments) ∙ tied_itself nat_cmp_total c.0.segment in
     (λ i. is_lt (ordering_then (sym node_tie i) (ordering_then (sym segment_tie i) (key_cmp c.0.key d.0.key)))) ∙ less
 
-below_here : (n s : ℕ) (c : Cell × Stamped) (cs : List (Cell × Stamped)) → here n s c ≡ true → below_all cell_cmp c.0 cs ≡ true → below_all key_cmp c.0.key (map entry (filter (here n s) cs)) ≡ true
+below_here : (n s : ℕ) (c : Cell × Stamped) (cs : List (Cell × Stamped)) → here n s c ≡ true → below_all cell_cmp c.0 cs ≡ true → below_all key_cmp c.0.key (map keyed (filter (here n s) cs)) ≡ true
 below_here n s c [] h below = refl
 below_here n s c (d ∷ cs) h below =
     let parts = and_parts (is_lt (cell_cmp c.0 d.0)) (below_all cell_cmp c.0 cs) below in
     let rest = below_here n s c cs h parts.1 in
-    elim (here n s d) as (λ b. here n s d ≡ b → below_all key_cmp c.0.key (map entry (cond b (d ∷ filter (here n s) cs) (filter (here n s) cs))) ≡ true) [
+    elim (here n s d) as (λ b. here n s d ≡ b → below_all key_cmp c.0.key (map keyed (cond b (d ∷ filter (here n s) cs) (filter (here n s) cs))) ≡ true) [
       | true ↦ λ there. and_from _ _ (ordered_here n s c d h there parts.0) rest
       | false ↦ λ _. rest
     ] refl
 
-sorted_here : (n s : ℕ) (cs : List (Cell × Stamped)) → is_sorted cell_cmp cs ≡ true → is_sorted key_cmp (map entry (filter (here n s) cs)) ≡ true
+sorted_here : (n s : ℕ) (cs : List (Cell × Stamped)) → is_sorted cell_cmp cs ≡ true → is_sorted key_cmp (map keyed (filter (here n s) cs)) ≡ true
 sorted_here n s [] h = refl
 sorted_here n s (c ∷ cs) h =
     let parts = and_parts (below_all cell_cmp c.0 cs) (is_sorted cell_cmp cs) h in
     let rest = sorted_here n s cs parts.1 in
-    elim (here n s c) as (λ b. here n s c ≡ b → is_sorted key_cmp (map entry (cond b (c ∷ filter (here n s) cs) (filter (here n s) cs))) ≡ true) [
+    elim (here n s c) as (λ b. here n s c ≡ b → is_sorted key_cmp (map keyed (cond b (c ∷ filter (here n s) cs) (filter (here n s) cs))) ≡ true) [
       | true ↦ λ there. and_from _ _ (below_here n s c cs there parts.0) rest
       | false ↦ λ _. rest
     ] refl

@@ -1,5 +1,5 @@
 -- What leaves, and what stays.
-use Rattle.std.proofs.Common.{◌≡◌, ℕ, Bool, true, false, cond, not, ◌&&◌, ◌||◌, ◌==◌, List, Option, Some, None, is_some, refl, sym, ap, ◌∙◌}
+use Rattle.std.proofs.Common.{◌≡◌, ℕ, Bool, true, false, cond, not, ◌&&◌, ◌==◌, List, Option, None, refl, ap, ◌∙◌}
 use Rattle.grid_base.specs.declared.stamped.Stamped.{Stamped}
 use Rattle.state_transfer.specs.Cells.{Cells}
 use Rattle.state_transfer.specs.Copying.{Copying, Transfer, Transfers, copy_at, transfer_to}
@@ -71,3 +71,12 @@ cells-closes p = refl
 pub transfer-closes : (p : Copying) (r s : ℕ) → transfer_to (closes p).transfers r s ≡ None
 unfolding closes
 transfer-closes p r s = transfer-none r s
+
+-- neither turns the clock
+pub clock-drops : (node : ℕ) (test : ℕ → Bool) (p : Copying) → (drops node test p).clock ≡ p.clock
+unfolding drops
+clock-drops node test p = refl
+
+pub clock-closes : (p : Copying) → (closes p).clock ≡ p.clock
+unfolding closes
+clock-closes p = refl

@@ -1,5 +1,5 @@
 -- What a write, a chunk that is sent or lands, and a tick make of copies and transfers.
-use Rattle.std.proofs.Common.{◌≡◌, ℕ, Bool, true, false, cond, not, ◌&&◌, ◌||◌, ◌==◌, List, Option, Some, None, is_some, unwrap_or, refl, sym, ap, ◌∙◌}
+use Rattle.std.proofs.Common.{◌≡◌, ℕ, cond, not, ◌&&◌, ◌||◌, ◌==◌, List, Option, Some, None, is_some, refl, ap, ◌∙◌}
 use Rattle.std.specs.FinSet as set_of
 use Rattle.std.specs.Option.{option_map}
 use Rattle.std.specs.Ordering.{eq_by_cmp}

@@ -1,5 +1,5 @@
 -- Writes, erasures and ticks.
-use Rattle.std.specs.Prelude.{ℕ, ◌==◌, Bool, true, false, ◌&&◌, cond, List, [], ◌∷◌, filter, Option, None, Some}
+use Rattle.std.specs.Prelude.{ℕ, ◌==◌, ◌&&◌, cond, List, [], ◌∷◌, filter, Option, None, Some}
 use Rattle.std.specs.Option.{option_map}
 use Rattle.std.specs.FinMap as map_of
 use Rattle.std.specs.FinSet as set_of
@@ -7,7 +7,7 @@ use Rattle.grid_base.specs.declared.stamped.Stamped.{Stamped}
 use Rattle.grid_base.specs.declared.stamped_entry.StampedEntry.{StampedEntry}
 use Rattle.container_seg.specs.Lifespans.{is_fresh, outlasts}
 use Rattle.topology_phase.specs.Owners.{among}
-use Rattle.state_transfer.specs.Cells.{Cell, Cells, Destination, cell_cmp}
+use Rattle.state_transfer.specs.Cells.{Cell, Cells, Destination}
 use Rattle.state_transfer.specs.Copying.{Copying, Transfer, each_changed}
 
 -- a cell has the value, or none

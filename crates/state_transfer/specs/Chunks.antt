@@ -1,12 +1,12 @@
 -- Chunks of a transfer: how one is sent, and how it lands.
-use Rattle.std.specs.Prelude.{ℕ, ◌-◌, ◌==◌, Bool, true, false, not, ◌&&◌, ◌||◌, cond, List, [], ◌∷◌, Option, None, Some, is_none, is_some}
+use Rattle.std.specs.Prelude.{ℕ, ◌==◌, Bool, true, false, not, ◌&&◌, ◌||◌, cond, List, [], ◌∷◌, Option, None, Some, is_none, is_some}
 use Rattle.std.specs.FinMap as map_of
 use Rattle.std.specs.FinSet as set_of
 use Rattle.grid_base.specs.Portion.{Portion}
 use Rattle.grid_base.specs.declared.stamped_entry.StampedEntry.{StampedEntry}
 use Rattle.container_seg.specs.Scans.{next_chunk}
-use Rattle.state_transfer.specs.Cells.{Cell, Cells, Destination, Keys}
-use Rattle.state_transfer.specs.Copying.{Copying, Transfer, each_changed, has_ended, part_of, transfer_to}
+use Rattle.state_transfer.specs.Cells.{Cells, Keys}
+use Rattle.state_transfer.specs.Copying.{Copying, Transfer, each_changed, part_of, transfer_to}
 
 -- a chunk may be sent where the transfer isn't there yet, or hasn't ended and no chunk of it flies
 abbrev pub may_send : Option Transfer → Bool

@@ -2,11 +2,10 @@
 use Rattle.std.specs.Prelude.{ℕ, ◌==◌, Bool, ◌&&◌, List, [], ◌∷◌, map, Option, is_none}
 use Rattle.std.specs.List.{filter}
 use Rattle.std.specs.FinMap as map_of
-use Rattle.std.specs.FinSet as set_of
 use Rattle.grid_base.specs.Nodes.{Nodes}
 use Rattle.grid_base.specs.declared.stamped.Stamped.{Stamped}
 use Rattle.grid_base.specs.declared.stamped_entry.StampedEntry.{StampedEntry}
-use Rattle.state_transfer.specs.Cells.{Cell, Cells, Destination, Keys, cell_cmp, destination_cmp}
+use Rattle.state_transfer.specs.Cells.{Cells, Destination, Keys, destination_cmp}
 
 -- a transfer of a segment: the node that provides it, the last key that was sent, the chunk that flies, whether
 -- the last chunk was sent, and the keys that were written or erased at the receiver since the transfer began

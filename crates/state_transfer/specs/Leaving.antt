@@ -1,7 +1,6 @@
 -- What leaves: copies that a node is to hold no longer, and transfers that come to nothing.
 use Rattle.std.specs.Prelude.{ℕ, ◌==◌, Bool, true, not, ◌&&◌, ◌||◌, Option, None, Some}
 use Rattle.std.specs.FinMap as map_of
-use Rattle.state_transfer.specs.Cells.{Cell, Destination}
 use Rattle.state_transfer.specs.Copying.{Copying, Transfer, has_ended}
 
 -- the copies that a node holds of the segments that pass the test go

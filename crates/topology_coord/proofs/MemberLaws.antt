@@ -1,6 +1,6 @@
 -- Who lives, with which topology, after each change.
-use Rattle.std.proofs.Common.{◌≡◌, ℕ, ◌+◌, ◌-◌, ◌<◌, ◌==◌, Bool, true, false, cond, not, ◌&&◌, ◌||◌, List, [], ◌∷◌, map, length, Option, Some, None, is_some, unwrap_or, refl, sym, ap, ◌∙◌, arith, inl, inr}
-use Rattle.std.proofs.lemmas.Bool.{and_parts, or_cases, eqb-true, ne_eqb, ltb-true, true≢false, cases_Bool}
+use Rattle.std.proofs.Common.{◌≡◌, ℕ, ◌+◌, ◌-◌, ◌<◌, ◌==◌, Bool, true, false, cond, not, ◌&&◌, ◌||◌, List, [], ◌∷◌, length, Option, Some, None, is_some, unwrap_or, refl, sym, ap, ◌∙◌, arith, inl, inr}
+use Rattle.std.proofs.lemmas.Bool.{and_parts, or_cases, eqb-true, ne_eqb, ltb-true, true≢false}
 use Rattle.std.proofs.lemmas.List.{length-map}
 use Rattle.std.specs.Cmp.{nat_cmp_total, unsigned_tied, nat_eq_equiv}
 use Rattle.std.specs.FinMap as map_of
@@ -9,8 +9,8 @@ use Rattle.std.specs.List.{list_all, list_any}
 use Rattle.std.specs.Ordering.{nat_cmp, eq_by_cmp}
 use Rattle.topology_phase.specs.Owners.{among}
 use Rattle.topology_phase.specs.Topologies.{Topology}
-use Rattle.topology_coord.specs.Changes.{announces, departs, installs, joins, may_depart, may_install, may_join}
-use Rattle.topology_coord.specs.Coordination.{Coordination, all_installed, installed_id, live_nodes, lives, some_live, topology_of}
+use Rattle.topology_coord.specs.Changes.{announces, departs, installs, joins, may_depart}
+use Rattle.topology_coord.specs.Coordination.{Coordination, all_installed, installed_id, live_nodes, lives, topology_of}
 
 any_as : {A : Type 0} (p q : A → Bool) → ((x : A) → p x ≡ q x) → (xs : List A) → list_any p xs ≡ list_any q xs
 any_as p q same [] = refl

@@ -1,12 +1,11 @@
 -- The next topology is a neighbour of the newest.
-use Rattle.std.proofs.Common.{◌≡◌, ℕ, ◌+◌, ◌<◌, ◌==◌, Bool, true, false, cond, not, ◌&&◌, ◌||◌, if◌then◌else◌, List, [], ◌∷◌, length, Option, Some, None, unwrap_or, refl, sym, ap, subst, ◌∙◌, arith, inl, inr}
-use Rattle.std.proofs.lemmas.Bool.{and_parts, and_from, eq-eqb, or_left, or_right, true≢false, leb-true, cases_Bool}
-use Rattle.hash_factory.specs.Formulas.{created}
+use Rattle.std.proofs.Common.{◌≡◌, ℕ, ◌+◌, ◌<◌, ◌==◌, Bool, true, false, cond, not, ◌||◌, if◌then◌else◌, List, length, Some, None, unwrap_or, refl, sym, ap, subst, ◌∙◌, inl, inr}
+use Rattle.std.proofs.lemmas.Bool.{and_parts, and_from, eq-eqb, or_left, or_right}
 use Rattle.hash_factory.proofs.Made.{length-created, owned_created}
-use Rattle.topology_phase.specs.Following.{begins_rebalance, cancelled, completed, in_phase, is_owned_by, mended, mended_hash, names_departed, neighbours, repaired}
+use Rattle.topology_phase.specs.Following.{begins_rebalance, cancelled, completed, in_phase, mended, neighbours, repaired}
 use Rattle.topology_phase.specs.Laws.{Follows, IsOwned}
-use Rattle.topology_phase.specs.Owners.{Hash, among, owners_at}
-use Rattle.topology_phase.specs.Phases.{by_phase, same_phase}
+use Rattle.topology_phase.specs.Owners.{among, owners_at}
+use Rattle.topology_phase.specs.Phases.{by_phase}
 use Rattle.topology_phase.specs.declared.phase.Phase.{Phase}
 use Rattle.topology_phase.specs.declared.phase.Phase.TheVariants.{NoRebalance, ReadOld, ReadAll, ReadNew}
 use Rattle.topology_phase.specs.Topologies.{Topology, same_hash, same_topology}
