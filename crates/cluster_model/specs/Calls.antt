@@ -1,59 +1,85 @@
 -- Calls and their rounds.
-use Rattle.std.specs.Prelude.{ℕ, ◌+◌, ◌==◌, Bool, true, false, not, nat_lt, ◌&&◌, List, [], ◌∷◌, ◌++◌, map, filter, length, Option, None, Some, is_none, unwrap_or}
-use Rattle.std.specs.List.{list_any, list_all}
+use Rattle.std.specs.Prelude.{ℕ, ◌+◌, ◌==◌, Bool, false, not, nat_lt, nat_le, ◌&&◌, List, [], ◌∷◌, ◌++◌, map, length, Option, None, Some, is_none, is_ok, unwrap_or}
+use Rattle.std.specs.List.{filter, list_all, list_any}
 use Rattle.std.specs.FinMap as map_of
+use Rattle.std.specs.FinSet as set_of
 use Rattle.std.specs.Ordering.{nat_cmp}
 use Rattle.grid_base.specs.declared.limits.TheConstants.{LAST_CALL, MOST_BATCH, MOST_ROUNDS}
 use Rattle.grid_event.specs.Configs.{is_up_to}
-use Rattle.grid_event.specs.declared.event.Ask.{Ask}
-use Rattle.grid_event.specs.declared.event.InvokeEvent.{InvokeEvent}
-use Rattle.grid_event.specs.declared.event.RoundEvent.{RoundEvent}
-use Rattle.delivery_mode.specs.declared.guarantee.Guarantee.{Guarantee}
-use Rattle.delivery_mode.specs.declared.guarantee.Guarantee.TheVariants.{Exact, AtLeast, AtMost}
+use Rattle.grid_event.specs.declared.call_events.Ask.{Ask}
+use Rattle.grid_event.specs.declared.call_events.InvokeEvent.{InvokeEvent}
+use Rattle.grid_event.specs.declared.call_events.RoundEvent.{RoundEvent}
 use Rattle.grid_event.specs.declared.request.Request.{Request}
-use Rattle.cluster_model.specs.State.{Asked, Call, State, Unit, call_of, is_ended, is_open}
-use Rattle.cluster_model.specs.Owners.{first_reader, installed_id, is_live, segments_of}
+use Rattle.local_publisher.specs.Units.{asked_unit}
+use Rattle.pipeline_expr.specs.Typing.{checked}
+use Rattle.pipeline_expr.specs.declared.kind.ValueKind.{ValueKind}
+use Rattle.pipeline_expr.specs.declared.pipeline.Pipeline.{Pipeline}
+use Rattle.suspect_retry.specs.Rounds.{closed_at, granted_rounds}
+use Rattle.topology_coord.specs.Coordination.{first_live, installed_id, lives, topology_of}
+use Rattle.topology_phase.specs.Owners.{among}
+use Rattle.topology_phase.specs.Topologies.{read_owners}
+use Rattle.cluster_model.specs.Same.{same_asks}
+use Rattle.cluster_model.specs.State.{Call, State, Unit, call_of, goes_on, is_of, is_open_unit, segments_of}
+use Rattle.cluster_model.specs.Topologies.{is_complete}
 use Rattle.cluster_model.specs.Writes.{has_reader}
 
-abbrev pub is_exact : Guarantee → Bool
-is_exact Exact = true
-is_exact AtLeast = false
-is_exact AtMost = false
+-- the pipeline may be run over values of the kind
+abbrev pub checks : Pipeline → ValueKind → Bool
+checks pipeline values = is_ok (checked pipeline values)
 
--- the numbers of a request are in their limits
-abbrev pub is_request : Request → Bool
-is_request request =
-    is_exact request.guarantee && (is_up_to MOST_ROUNDS request.rounds && is_up_to MOST_BATCH request.batch)
+-- the numbers of a request are in their limits, and its pipeline checks
+abbrev pub is_request : ValueKind → Request → Bool
+is_request values request =
+    is_up_to MOST_ROUNDS request.rounds && (is_up_to MOST_BATCH request.batch && checks request.pipeline values)
 
--- the originator is live, the call's number is new and in its limits, and so are the request's numbers
+-- the originator is live, the call's number is new and in its limits, and so is what it asks for
 unfoldable pub can_invoke : State → InvokeEvent → Bool
 can_invoke st i =
-    is_live st i.node
-    && (is_none (call_of st i.call) && (is_up_to LAST_CALL i.call && is_request i.request))
+    lives st.coord i.node
+    && (is_none (call_of st i.call) && (is_up_to LAST_CALL i.call && is_request st.config.values i.request))
 
--- the call is there, without rounds and unanswered
-unfoldable pub invoked : State → InvokeEvent → State
-invoked st i = record st {
-  calls = map_of.insert st.calls i.call (record { originator = i.node; request = i.request; rounds = 0; outcome = None });
+-- a call that was just made
+abbrev pub fresh_call : InvokeEvent → Call
+fresh_call i = record {
+  originator = i.node;
+  request = i.request;
+  rounds = 0;
+  last_round = [];
+  taken = [];
+  given = 0;
+  lost = set_of.empty;
+  outcome = None;
 }
 
--- the call is there, unanswered, and its originator is live
-abbrev pub can_go_on : State → Option Call → Bool
-can_go_on st None = false
-can_go_on st (Some call) = is_none call.outcome && is_live st call.originator
+-- the call is there
+unfoldable pub invoked : State → InvokeEvent → State
+invoked st i = record st { calls = map_of.insert st.calls i.call (fresh_call i) }
 
 -- a unit of the call is open
 abbrev pub has_open : State → ℕ → Bool
-has_open st call = list_any (λ unit. (unit.call == call) && is_open unit.stage) st.units
-
--- a unit of the call on the segment has ended
-abbrev pub is_complete : State → ℕ → ℕ → Bool
-is_complete st call segment =
-    list_any (λ unit. (unit.call == call) && ((unit.segment == segment) && is_ended unit.stage)) st.units
+has_open st call = list_any (λ unit. is_of call unit && is_open_unit unit) st.units
 
 -- the segments that are incomplete for the call, ascending
 abbrev pub incomplete : State → ℕ → List ℕ
-incomplete st call = filter (λ segment. not (is_complete st call segment)) (segments_of st)
+incomplete st call = filter (λ segment. not (is_complete st.units call segment)) (segments_of st)
+
+-- every segment is complete for the call
+abbrev pub all_complete : State → ℕ → Bool
+all_complete st call = list_all (is_complete st.units call) (segments_of st)
+
+-- the rounds that the call is granted: as many as it states, and one at most once
+abbrev pub granted : Call → ℕ
+granted call = granted_rounds call.request.guarantee call.request.rounds
+
+-- the originator has installed a topology not older than any at which a unit of the last round was refused or was lost by an installation
+abbrev pub has_caught_up : State → Call → Bool
+has_caught_up st call =
+    list_all (λ (unit : Unit). nat_le (closed_at unit.work.state) (installed_id st.coord call.originator))
+    (filter (λ (unit : Unit). among unit.work.id call.last_round) st.units)
+
+-- the first live reader of a segment by the originator's topology
+abbrev pub first_reader : State → ℕ → ℕ → Option ℕ
+first_reader st originator segment = first_live st.coord (read_owners (topology_of st.coord originator) segment)
 
 -- one unit for each segment, numbered on from u: the segment's first live reader is asked
 abbrev pub asks_from : State → ℕ → ℕ → List ℕ → List Ask
@@ -62,57 +88,44 @@ asks_from st originator u (segment ∷ segments) =
     record { unit = u; segment = segment; node = unwrap_or (first_reader st originator segment) 0 }
     ∷ asks_from st originator (u + 1) segments
 
--- the asks of the call's next round
+-- the asks of the call's next round: its incomplete segments, ascending, by the next unit numbers
 abbrev pub asks_of : State → ℕ → Call → List Ask
 asks_of st number call = asks_from st call.originator (length st.units + 1) (incomplete st number)
 
--- two asks are the same
-abbrev pub same_ask : Ask → Ask → Bool
-same_ask a b = (a.unit == b.unit) && ((a.segment == b.segment) && (a.node == b.node))
-
-abbrev pub same_asks : List Ask → List Ask → Bool
-same_asks [] [] = true
-same_asks (x ∷ xs) (y ∷ ys) = same_ask x y && same_asks xs ys
-same_asks _ _ = false
-
--- no unit of the call is open, a granted round is left, a segment is incomplete, and each incomplete
--- segment has a live reader by the originator's topology
+-- no segment is noted as lost, no unit of the call is open, a granted round is left, a segment is incomplete, each
+-- incomplete one has a live reader by the originator's topology, and the originator has caught up
 abbrev pub is_due : State → ℕ → Call → Bool
 is_due st number call =
-    not (has_open st number)
-    && (nat_lt call.rounds call.request.rounds
-    && (nat_lt 0 (length (incomplete st number)) && list_all (has_reader st call.originator) (incomplete st number)))
+    (set_of.len call.lost == 0)
+    && (not (has_open st number)
+    && (nat_lt call.rounds (granted call)
+    && (not (all_complete st number)
+    && (list_all (has_reader st call.originator) (incomplete st number) && has_caught_up st call))))
 
--- a round is due, it has the id that the originator has installed, and it asks for what is incomplete
+-- a round is due, it has the number of the topology that the originator has installed, and it asks for what is incomplete
 abbrev pub is_next_round : State → RoundEvent → Option Call → Bool
 is_next_round st r None = false
 is_next_round st r (Some call) =
     is_due st r.call call
-    && ((r.id == installed_id st call.originator) && same_asks r.asks (asks_of st r.call call))
+    && ((r.id == installed_id st.coord call.originator) && same_asks r.asks (asks_of st r.call call))
 
 unfoldable pub can_round : State → RoundEvent → Bool
-can_round st r = can_go_on st (call_of st r.call) && is_next_round st r (call_of st r.call)
+can_round st r = goes_on st (call_of st r.call) && is_next_round st r (call_of st r.call)
 
 -- the unit that an ask makes
 abbrev pub unit_asked : RoundEvent → Ask → Unit
-unit_asked r ask = record {
-  call = r.call;
-  segment = ask.segment;
-  node = ask.node;
-  asked_at = r.id;
-  stage = Asked;
-  entries = [];
-  last = false;
-}
+unit_asked r ask = record { work = asked_unit ask.unit r.call ask.segment ask.node r.id; flying = None }
 
--- the call has made one more round
-abbrev pub with_round : State → ℕ → Option Call → map_of.FinMap nat_cmp Call
-with_round st number None = st.calls
-with_round st number (Some call) = map_of.insert st.calls number (record call { rounds = call.rounds + 1 })
+-- the call has made one more round, of these units
+abbrev pub with_round : State → RoundEvent → Option Call → map_of.FinMap nat_cmp Call
+with_round st r None = st.calls
+with_round st r (Some call) =
+    map_of.insert st.calls r.call
+    (record call { rounds = call.rounds + 1; last_round = map (λ (ask : Ask). ask.unit) r.asks })
 
--- a round more was made, and its units are asked
+-- one more round was made, and its units are asked
 unfoldable pub rounded : State → RoundEvent → State
 rounded st r = record st {
-  calls = with_round st r.call (call_of st r.call);
+  calls = with_round st r (call_of st r.call);
   units = st.units ++ map (unit_asked r) r.asks;
 }

@@ -1,23 +1,32 @@
 -- The event that a command chooses.
-use Rattle.std.specs.Prelude.{ℕ, ◌+◌, ◌==◌, true, ◌&&◌, if◌then◌else◌, List, [], ◌∷◌, Option, None, Some}
-use Rattle.std.specs.Option.{option_map}
-use Rattle.std.specs.List.{flat_map}
+use Rattle.std.specs.Prelude.{ℕ, ◌+◌, ◌==◌, Bool, false, ◌&&◌, if◌then◌else◌, List, [], ◌∷◌, map, reverse, Option, None, Some, is_none}
+use Rattle.std.specs.Option.{option_map, option_and_then}
+use Rattle.std.specs.List.{filter, find, flat_map}
+use Rattle.grid_base.specs.declared.entry.Entry.{Entry}
 use Rattle.grid_event.specs.declared.command.Command.{Command}
-use Rattle.grid_event.specs.declared.command.Command.TheVariants.{Put, Call, Drive}
+use Rattle.grid_event.specs.declared.command.Command.TheVariants.{Put, Erase, Tick, Join, Depart, Announce, Install, Copy, Land, Call, Round, Begin, Scan, Fetch, Take, Done, Answer, Advance, Drive, Serve}
 use Rattle.grid_event.specs.declared.event.Event.{Event}
-use Rattle.grid_event.specs.declared.outcome.Outcome.{Outcome}
 use Rattle.grid_event.specs.declared.event.Event.TheVariants as events
-use Rattle.cluster_model.specs.State.{State, Unit, call_of, is_open, unit_of}
+use Rattle.topology_coord.specs.Coordination.{installed_id, live_nodes}
+use Rattle.topology_coord.specs.Following.{cancels}
+use Rattle.topology_phase.specs.Topologies.{Topology}
+use Rattle.cluster_model.specs.State.{State, Unit, call_of, goes_on, is_of, is_on, is_open_unit, segments_of, unit_of}
 use Rattle.cluster_model.specs.State as states
-use Rattle.cluster_model.specs.Owners.{installed_id, segments_of}
+use Rattle.cluster_model.specs.Topologies.{next_topology}
+use Rattle.cluster_model.specs.Transfers.{next_chunk_of, provider}
 use Rattle.cluster_model.specs.Calls.{asks_of}
-use Rattle.cluster_model.specs.Units.{next_of}
+use Rattle.cluster_model.specs.Units.{further_items, next_batch, passing, reads, walks}
 use Rattle.cluster_model.specs.Answers.{outcome_of}
 use Rattle.cluster_model.specs.Step.{allowed}
 
 -- the event, where it may happen
 abbrev pub if_allowed : State → Event → Option Event
 if_allowed st event = if allowed st event then Some event else None
+
+-- the event that there may be, where it may happen
+abbrev pub if_any_allowed : State → Option Event → Option Event
+if_any_allowed st None = None
+if_any_allowed st (Some event) = if_allowed st event
 
 -- the first that there is
 abbrev pub or_else : {A : Type 0} → Option A → Option A → Option A
@@ -29,55 +38,159 @@ abbrev pub first_some : {A B : Type 0} → (A → Option B) → List A → Optio
 first_some f [] = None
 first_some f (x ∷ xs) = or_else (f x) (first_some f xs)
 
--- the numbers of the call's open units on a segment; u is the number of the first unit of the list
-abbrev pub open_on : ℕ → ℕ → ℕ → List Unit → List ℕ
-open_on call segment u [] = []
-open_on call segment u (unit ∷ units) =
-    if (unit.call == call) && ((unit.segment == segment) && is_open unit.stage)
-    then u ∷ open_on call segment (u + 1) units
-    else open_on call segment (u + 1) units
+-- the announcement of the next topology
+abbrev pub announce_event : State → Option Event
+announce_event st = if_any_allowed st (option_map (λ (topology : Topology). events.Announce topology) (next_topology st))
 
--- the call's open units by ascending segment
-abbrev pub open_units : State → ℕ → List ℕ
-open_units st call = flat_map (λ segment. open_on call segment 1 st.units) (segments_of st)
+-- the installation of the newest topology at a node
+abbrev pub install_event : State → ℕ → Option Event
+install_event st node = if_allowed st (events.Install node st.coord.newest.id)
 
--- the scan of a unit's next entries
-abbrev pub scan_event : State → ℕ → Option Unit → Option Event
-scan_event st number None = None
-scan_event st number (Some unit) = if_allowed st (events.Scan (record { unit = number; batch = next_of st unit }))
+-- the copy of the next chunk of a segment to a receiver
+abbrev pub copy_event : State → ℕ → ℕ → Option Event
+copy_event st receiver segment =
+    if_any_allowed st
+    (option_map
+    (λ node. events.Copy (record { receiver = receiver; segment = segment; provider = node; batch = next_chunk_of st receiver segment node }))
+    (provider st receiver segment))
 
--- Done, Scan, Begin of a unit: the first that may happen
-abbrev pub unit_event : State → ℕ → Option Event
-unit_event st number =
-    or_else (if_allowed st (events.Done number))
-    (or_else (scan_event st number (unit_of st number)) (if_allowed st (events.Begin number true)))
+-- the landing of what flies of a segment to a receiver
+abbrev pub land_event : State → ℕ → ℕ → Option Event
+land_event st receiver segment = if_allowed st (events.Land receiver segment)
 
--- the answer that gives a call its outcome
-abbrev pub answer_with : State → ℕ → Option Outcome → Option Event
-answer_with st number None = None
-answer_with st number (Some outcome) = if_allowed st (events.Answer (record { call = number; outcome = outcome }))
+-- the next round of a call
+abbrev pub round_with : State → ℕ → states.Call → Event
+round_with st number call =
+    events.Round (record { call = number; id = installed_id st.coord call.originator; asks = asks_of st number call })
 
--- the answer of a call, where it has one
-abbrev pub answer_event : State → ℕ → Option states.Call → Option Event
-answer_event st number None = None
-answer_event st number (Some call) = answer_with st number (outcome_of st number call)
+abbrev pub round_event : State → ℕ → Option Event
+round_event st number = if_any_allowed st (option_map (round_with st number) (call_of st number))
 
--- the next round of a call, where it may be made
-abbrev pub round_event : State → ℕ → Option states.Call → Option Event
-round_event st number None = None
-round_event st number (Some call) =
-    if_allowed st
-    (events.Round (record { call = number; id = installed_id st call.originator; asks = asks_of st number call }))
+-- the answer of a call
+abbrev pub answer_event : State → ℕ → Option Event
+answer_event st number =
+    if_any_allowed st
+    (option_map (λ outcome. events.Answer (record { call = number; outcome = outcome })) (option_and_then (outcome_of st number) (call_of st number)))
 
--- a write as said, which stands until the clock has gone on by its lifespan; a call as said; of a call the
--- first that there is: its answer, an event of an open unit by ascending segment, a round
-abbrev pub chosen : State → Command → Option Event
+-- the beginning of a unit, which runs where its node reads its segment
+abbrev pub begin_event : State → Unit → Option Event
+begin_event st unit = if_allowed st (events.Begin unit.work.id (reads st unit))
+
+-- the reading of a unit's next batch, by a reduction and by a walk
+abbrev pub scan_event : State → Unit → Option Event
+scan_event st unit = if_allowed st (events.Scan (record { unit = unit.work.id; batch = next_batch st unit }))
+
+abbrev pub fetch_event : State → Unit → Option Event
+fetch_event st unit = if_allowed st (events.Fetch (record { unit = unit.work.id; batch = next_batch st unit }))
+
+-- the taking of what flies of a unit
+abbrev pub take_with : Unit → Option states.Call → Option (List Entry) → Option Event
+take_with unit (Some call) (Some batch) =
+    Some
+    (events.Take
+    (record { unit = unit.work.id; entries = passing call unit batch; given = further_items call (passing call unit batch) }))
+take_with unit _ _ = None
+
+abbrev pub take_event : State → Unit → Option Event
+take_event st unit = if_any_allowed st (take_with unit (call_of st unit.work.call) unit.flying)
+
+-- the end of a unit
+abbrev pub done_event : State → Unit → Option Event
+done_event st unit = if_allowed st (events.Done unit.work.id)
+
+-- the newest unit of a call on a segment
+abbrev pub newest_unit : State → ℕ → ℕ → Option Unit
+newest_unit st call segment = find (is_on call segment) (reverse st.units)
+
+-- an event of the newest unit of a call on a segment
+abbrev pub of_newest : (State → Unit → Option Event) → State → ℕ → ℕ → Option Event
+of_newest event_of st call segment = option_and_then (event_of st) (newest_unit st call segment)
+
+-- the receivers and segments of the cluster, by receiver and then by segment
+abbrev pub destinations : State → List (ℕ × ℕ)
+destinations st = flat_map (λ node. map (λ segment. (node, segment)) (segments_of st)) (live_nodes st.coord)
+
+-- the announcement of the next topology, where it gives up the rebalance
+abbrev pub cancel_with : State → Option Topology → Option Event
+cancel_with st None = None
+cancel_with st (Some next) = if cancels st.coord next then if_allowed st (events.Announce next) else None
+
+abbrev pub cancel_event : State → Option Event
+cancel_event st = cancel_with st (next_topology st)
+
+-- the first that there is: an installation at the least live node that lacks the newest topology; a cancellation; a landing, and
+-- then a copy, of the least receiver and then the least segment; an announcement
+unfoldable pub advance_event : State → Option Event
+advance_event st =
+    or_else (first_some (install_event st) (live_nodes st.coord))
+    (or_else (cancel_event st)
+    (or_else (first_some (λ d. land_event st d.0 d.1) (destinations st))
+    (or_else (first_some (λ d. copy_event st d.0 d.1) (destinations st)) (announce_event st))))
+
+-- the open units of a call by ascending segment
+abbrev pub open_units : State → ℕ → List Unit
+open_units st call =
+    flat_map (λ segment. filter (λ unit. is_on call segment unit && is_open_unit unit) st.units) (segments_of st)
+
+-- the first that there is of a unit for its call: take, done, scan, fetch, begin
+abbrev pub unit_event : State → Unit → Option Event
+unit_event st unit =
+    or_else (take_event st unit)
+    (or_else (done_event st unit) (or_else (scan_event st unit) (or_else (fetch_event st unit) (begin_event st unit))))
+
+-- the call was made and isn't answered
+abbrev pub is_unanswered : Option states.Call → Bool
+is_unanswered None = false
+is_unanswered (Some call) = is_none call.outcome
+
+-- the first that there is for a call that isn't answered: its answer, an event of an open unit, a round, a topology step
+unfoldable pub drive_event : State → ℕ → Option Event
+drive_event st call =
+    if is_unanswered (call_of st call)
+    then or_else (answer_event st call)
+    (or_else (first_some (unit_event st) (open_units st call)) (or_else (round_event st call) (advance_event st)))
+    else None
+
+-- the open units at a node by ascending number
+abbrev pub units_at : State → ℕ → List Unit
+units_at st node = filter (λ unit. is_open_unit unit && (unit.work.node == node)) st.units
+
+-- the first that there is of a unit for its node: done of a walk, scan, fetch, begin
+abbrev pub served_event : State → Unit → Option Event
+served_event st unit =
+    or_else (if walks (call_of st unit.work.call) then done_event st unit else None)
+    (or_else (scan_event st unit) (or_else (fetch_event st unit) (begin_event st unit)))
+
+-- the first that there is at a node: its installation; the landing, and then a copy, of its least segment; an event of an open unit
+unfoldable pub serve_event : State → ℕ → Option Event
+serve_event st node =
+    or_else (install_event st node)
+    (or_else (first_some (land_event st node) (segments_of st))
+    (or_else (first_some (copy_event st node) (segments_of st)) (first_some (served_event st) (units_at st node))))
+
+-- a write as said, which stands until the clock has gone on by its lifespan; the other commands by name
+unfoldable pub chosen : State → Command → Option Event
 chosen st (Put by_ node key datum lifespan) =
     if_allowed st
     (events.Write
-    (record { by = by_; node = node; key = key; value = datum; until = option_map (λ ticks. st.clock + ticks) lifespan }))
+    (record { by = by_; node = node; key = key; value = datum; until = option_map (λ ticks. st.copying.clock + ticks) lifespan }))
+chosen st (Erase by_ node key) = if_allowed st (events.Erase (record { by = by_; node = node; key = key }))
+chosen st (Tick ticks) = if_allowed st (events.Tick ticks)
+chosen st (Join node) = if_allowed st (events.Join node)
+chosen st (Depart node) = if_allowed st (events.Depart node)
+chosen st Announce = announce_event st
+chosen st (Install node) = install_event st node
+chosen st (Copy receiver segment) = copy_event st receiver segment
+chosen st (Land receiver segment) = land_event st receiver segment
 chosen st (Call by_ call node request) =
     if_allowed st (events.Invoke (record { by = by_; call = call; node = node; request = request }))
-chosen st (Drive call) =
-    or_else (answer_event st call (call_of st call))
-    (or_else (first_some (unit_event st) (open_units st call)) (round_event st call (call_of st call)))
+chosen st (Round call) = round_event st call
+chosen st (Begin call segment) = of_newest begin_event st call segment
+chosen st (Scan call segment) = of_newest scan_event st call segment
+chosen st (Fetch call segment) = of_newest fetch_event st call segment
+chosen st (Take call segment) = of_newest take_event st call segment
+chosen st (Done call segment) = of_newest done_event st call segment
+chosen st (Answer call) = answer_event st call
+chosen st Advance = advance_event st
+chosen st (Drive call) = drive_event st call
+chosen st (Serve node) = serve_event st node

@@ -1,33 +1,55 @@
 -- The cluster step: which events may happen, and what each changes.
 use Rattle.std.specs.Prelude.{Bool, true, false, ◌&&◌, if◌then◌else◌, List, [], ◌∷◌, Option, None, Some}
-use Rattle.grid_event.specs.declared.event.Event.{Event}
-use Rattle.grid_event.specs.declared.event.Event.TheVariants.{Write, Invoke, Round, Begin, Scan, Done, Answer}
 use Rattle.grid_event.specs.declared.config.Config.{Config}
+use Rattle.grid_event.specs.declared.event.Event.{Event}
+use Rattle.grid_event.specs.declared.event.Event.TheVariants.{Write, Erase, Tick, Join, Depart, Announce, Install, Copy, Land, Invoke, Round, Begin, Scan, Fetch, Take, Done, Answer}
 use Rattle.grid_event.specs.Histories.{History}
 use Rattle.cluster_model.specs.State.{State, start}
-use Rattle.cluster_model.specs.Writes.{can_write, written}
+use Rattle.cluster_model.specs.Writes.{can_write, written, can_erase, erased, can_tick, ticked}
+use Rattle.cluster_model.specs.Topologies.{can_join, joined, can_depart, departed, can_announce, announced, can_install, installed}
+use Rattle.cluster_model.specs.Transfers.{can_copy, copied, can_land, landed}
 use Rattle.cluster_model.specs.Calls.{can_invoke, invoked, can_round, rounded}
-use Rattle.cluster_model.specs.Units.{can_begin, begun, can_scan, scanned, can_end, ended}
+use Rattle.cluster_model.specs.Units.{can_begin, begun_unit, can_scan, scanned, can_fetch, fetched, can_take, taken_by, can_end, ended_unit}
 use Rattle.cluster_model.specs.Answers.{can_answer, answered}
 
 -- the event may happen now
 abbrev pub allowed : State → Event → Bool
 allowed st (Write w) = can_write st w
+allowed st (Erase e) = can_erase st e
+allowed st (Tick ticks) = can_tick st ticks
+allowed st (Join node) = can_join st node
+allowed st (Depart node) = can_depart st node
+allowed st (Announce topology) = can_announce st topology
+allowed st (Install node id) = can_install st node id
+allowed st (Copy c) = can_copy st c
+allowed st (Land receiver segment) = can_land st receiver segment
 allowed st (Invoke i) = can_invoke st i
 allowed st (Round r) = can_round st r
 allowed st (Begin unit runs) = can_begin st unit runs
 allowed st (Scan s) = can_scan st s
+allowed st (Fetch f) = can_fetch st f
+allowed st (Take t) = can_take st t
 allowed st (Done unit) = can_end st unit
 allowed st (Answer a) = can_answer st a
 
 -- what the event makes of the cluster
 abbrev pub changed : State → Event → State
 changed st (Write w) = written st w
+changed st (Erase e) = erased st e
+changed st (Tick ticks) = ticked st ticks
+changed st (Join node) = joined st node
+changed st (Depart node) = departed st node
+changed st (Announce topology) = announced st topology
+changed st (Install node id) = installed st node id
+changed st (Copy c) = copied st c
+changed st (Land receiver segment) = landed st receiver segment
 changed st (Invoke i) = invoked st i
 changed st (Round r) = rounded st r
-changed st (Begin unit runs) = begun st unit
+changed st (Begin unit runs) = begun_unit st unit runs
 changed st (Scan s) = scanned st s
-changed st (Done unit) = ended st unit
+changed st (Fetch f) = fetched st f
+changed st (Take t) = taken_by st t
+changed st (Done unit) = ended_unit st unit
 changed st (Answer a) = answered st a
 
 -- the cluster after the event, or nothing where it may not happen

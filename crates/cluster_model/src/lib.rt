@@ -1,7 +1,10 @@
-//! What may happen in a cluster, as definitions: its state, the step of each kind of event, and the
-//! event that each command chooses; with the laws that show that they say what they should.
+//! What may happen in a cluster, and what is claimed of the answers of its calls: definitions, with
+//! the laws that show that they say what they should.
 #![tactic(auto)]
 
 mod laws;
 
-pub use laws::chosen_events_may_happen;
+pub use laws::{
+    causes_exclude_one_another, chosen_events_may_happen, evidence_is_its_own, map_is_key_by_key,
+    others_stay, steps_are_functional,
+};

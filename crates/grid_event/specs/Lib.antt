@@ -1,4 +1,9 @@
 pub mod Configs
+pub mod Taking
 pub mod Weights
 pub mod Histories
 pub mod Insides
+pub mod Members
+pub mod Maps
+pub mod UnitHistories
+pub mod Spans

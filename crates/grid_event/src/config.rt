@@ -2,8 +2,8 @@
 
 ghost use Rattle.std.specs.Prelude.{◌≡◌};
 
-use crate::value_kind::ValueKind;
 use grid_base::limits::{MOST_CHUNK, MOST_NODES, MOST_OWNERS, MOST_SEGMENTS};
+use pipeline_expr::ValueKind;
 use segment_hash::Partition;
 
 /// The settings of a cluster: the first nodes, which are numbered from 0; the segments; how many

@@ -28,9 +28,13 @@ pub struct Journal {
 }
 
 impl Model for Journal {
+    ghost use Rattle.std.specs.Coded.{codes};
+    ghost use Rattle.pipeline_expr.specs.contracts.expr.Expr as exprs;
     ghost use Rattle.grid_event.specs.Histories.{Kept};
 
     ghost Value = { Kept };
+
+    ghost coded = { Prim.hlevel (codes, exprs.the_row.coded) };
 
     ghost use Rattle.grid_event.specs.Insides.{kept_of, IsJournal};
 
@@ -101,7 +105,7 @@ impl Journal {
         if self.events.len() >= MOST_EVENTS as usize {
             return true;
         }
-        event.weight() > (MOST_WEIGHT - self.weight) as usize
+        event.weight() > (MOST_WEIGHT - self.weight) as u128
     }
 
     /// Notes that a script line had no event, behind the events so far. The only failure is that

@@ -2,28 +2,36 @@
 //! commands that choose them, the outcomes, and the journal that keeps the events in their order.
 #![tactic(auto)]
 
+mod boxes;
+mod call_events;
 mod command;
 mod config;
 mod event;
 mod idle;
 mod journal;
 mod outcome;
-mod pipeline;
 mod push_fault;
 mod request;
-#[cfg(test)]
-mod tests;
-mod value_kind;
+mod store_events;
+mod unit_events;
 
+pub use call_events::{AnswerEvent, Ask, InvokeEvent, RoundEvent};
 pub use command::Command;
 pub use config::Config;
 pub use delivery_mode::Guarantee;
-pub use event::{AnswerEvent, Ask, Event, InvokeEvent, RoundEvent, ScanEvent, WriteEvent};
+pub use event::Event;
 pub use idle::Idle;
 pub use journal::Journal;
-pub use outcome::{Answer, Outcome};
-pub use pipeline::{End, Pipeline};
+pub use outcome::Outcome;
+pub use pipeline_expr::{
+    Answer, CheckFault, End, Expr, Exprs, Kind, Op, Ops, Pipeline, Spread, ValueKind,
+};
 pub use push_fault::PushFault;
 pub use request::Request;
 pub use segment_hash::Partition;
-pub use value_kind::ValueKind;
+pub use store_events::{CopyEvent, EraseEvent, WriteEvent};
+pub use topology_phase::Topology;
+pub use unit_events::{FetchEvent, ScanEvent, TakeEvent};
+
+#[cfg(test)]
+mod tests;

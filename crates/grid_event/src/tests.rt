@@ -3,15 +3,12 @@
 ghost use Rattle.std.specs.Prelude.{◌≡◌, true, IsSome, OnOk};
 ghost use Rattle.grid_event.specs.Configs.{is_config};
 
-use crate::{
-    Answer, AnswerEvent, Ask, Command, Config, End, Event, Guarantee, Idle, InvokeEvent, Journal,
-    Outcome, Partition, Pipeline, Request, RoundEvent, ScanEvent, ValueKind, WriteEvent,
-};
-use grid_base::{
-    Batch, CallId, Datum, Entries, Entry, Key, NodeId, SegmentId, SessionId, Text, TopologyId,
-    UnitId,
-};
-use sqlite_items::{Boxed, Items};
+mod commands;
+mod makes;
+mod outcomes;
+
+use crate::{Config, Event, Idle, Journal, Outcome, Partition, ValueKind};
+use grid_base::{NodeId, SegmentId, TopologyId, UnitId};
 use std::alloc::Global;
 use std::test::Fail;
 
@@ -51,116 +48,73 @@ fn push(alloc: Global, journal: &mut Journal, event: Event) -> Result<(u32, u32)
     Ok((journal.len(), journal.weight()))
 }
 
-/// The text x at the key a.
-fn write(alloc: Global) -> Result<Event, Fail> {
-    let event = WriteEvent {
-        by: SessionId::new(0),
-        node: NodeId::new(0),
-        key: Key::new(b"a")?,
-        value: Datum::Text(Text::new(alloc, b"x")?),
-        until: Some(9),
-    };
-    Ok(Event::Write(Boxed::new(alloc, event)?))
-}
-
-/// An exact count in one round and in batches of ten.
-fn request() -> Request {
-    Request {
-        guarantee: Guarantee::Exact,
-        rounds: 1,
-        batch: 10,
-        pipeline: Pipeline { end: End::Count },
-    }
-}
-
-/// The call 1.
-fn invoke(alloc: Global) -> Result<Event, Fail> {
-    let event = InvokeEvent {
-        by: SessionId::new(0),
-        call: CallId::new(1),
-        node: NodeId::new(0),
-        request: request(),
-    };
-    Ok(Event::Invoke(Boxed::new(alloc, event)?))
-}
-
-/// A round of the call 1 with unit 1.
-fn round(alloc: Global) -> Result<Event, Fail> {
-    let ask = Ask {
-        unit: UnitId::new(1),
-        segment: SegmentId::new(0),
-        node: NodeId::new(0),
-    };
-    let event = RoundEvent {
-        call: CallId::new(1),
-        id: TopologyId::new(1),
-        asks: Items::from_slice(alloc, &[ask])?,
-    };
-    Ok(Event::Round(Boxed::new(alloc, event)?))
-}
-
-/// The last scan of unit 1, of two entries.
-fn scan(alloc: Global) -> Result<Event, Fail> {
-    let mut entries = Entries::new(alloc);
-    for key in [b"a", b"b"] {
-        entries.push(Entry {
-            key: Key::new(key)?,
-            value: Datum::Text(Text::new(alloc, b"x")?),
-        })?;
-    }
-    let event = ScanEvent {
-        unit: UnitId::new(1),
-        batch: Batch {
-            entries,
-            last: true,
-        },
-    };
-    Ok(Event::Scan(Boxed::new(alloc, event)?))
-}
-
-/// The call 1 is answered by the number of its entries.
-fn answer(alloc: Global) -> Result<Event, Fail> {
-    let event = AnswerEvent {
-        call: CallId::new(1),
-        outcome: Outcome::Value(Answer::Count(2)),
-    };
-    Ok(Event::Answer(Boxed::new(alloc, event)?))
-}
-
-/// Whether the copy of a command for a key is one for that key.
-fn copies_command(alloc: Global) -> Result<bool, Fail> {
-    let key = Key::new(b"a")?;
-    let command = Command::Put {
-        by: SessionId::new(0),
-        node: NodeId::new(0),
-        key,
-        value: Datum::Text(Text::new(alloc, b"x")?),
-        lifespan: None,
-    };
-    match command.copy(alloc)? {
-        Command::Put { key: other, .. } => Ok(other == key),
-        _ => Ok(false),
-    }
+#[test]
+fn keeps_the_events_of_the_cluster(rt: HostRuntime) -> Result<(), Fail> {
+    let alloc = rt.alloc();
+    let mut journal = started(alloc, small());
+    let (node, id) = (NodeId::new(0), TopologyId::new(2));
+    let install = Event::Install { node, id };
+    assert_eq!(rt;
+        push(alloc, &mut journal, Event::Tick { ticks: 5 })?,
+        (1, 0)
+    );
+    assert_eq!(rt; push(alloc, &mut journal, Event::Join { node })?, (2, 0));
+    assert_eq!(rt; push(alloc, &mut journal, Event::Depart { node })?, (3, 0));
+    assert_eq!(rt; push(alloc, &mut journal, makes::announce(alloc)?)?, (4, 0));
+    assert_eq!(rt; push(alloc, &mut journal, install)?, (5, 0));
+    Ok(())
 }
 
 #[test]
-fn keeps_an_event_of_each_kind(rt: HostRuntime) -> Result<(), Fail> {
+fn keeps_the_events_of_the_store(rt: HostRuntime) -> Result<(), Fail> {
     let alloc = rt.alloc();
-    let unit = UnitId::new(1);
     let mut journal = started(alloc, small());
+    let (receiver, segment) = (NodeId::new(1), SegmentId::new(0));
+    let land = Event::Land { receiver, segment };
+    assert_eq!(rt; push(alloc, &mut journal, makes::write(alloc)?)?, (1, 0));
+    assert_eq!(rt; push(alloc, &mut journal, makes::erase(alloc)?)?, (2, 0));
+    assert_eq!(rt; push(alloc, &mut journal, makes::copy(alloc)?)?, (3, 1));
+    assert_eq!(rt; push(alloc, &mut journal, land)?, (4, 1));
+    Ok(())
+}
+
+#[test]
+fn keeps_the_events_of_calls(rt: HostRuntime) -> Result<(), Fail> {
+    let alloc = rt.alloc();
+    let mut journal = started(alloc, small());
+    let list = Outcome::Value(makes::list(alloc)?);
+    let listed = makes::answer(alloc, list)?;
+    let ended = makes::answer(alloc, Outcome::Ended)?;
+    assert_eq!(rt; push(alloc, &mut journal, makes::invoke(alloc)?)?, (1, 0));
+    assert_eq!(rt; push(alloc, &mut journal, makes::round(alloc)?)?, (2, 0));
+    assert_eq!(rt; push(alloc, &mut journal, listed)?, (3, 1));
+    assert_eq!(rt; push(alloc, &mut journal, ended)?, (4, 1));
+    Ok(())
+}
+
+#[test]
+fn keeps_the_events_of_units(rt: HostRuntime) -> Result<(), Fail> {
+    let alloc = rt.alloc();
+    let mut journal = started(alloc, small());
+    let unit = UnitId::new(1);
     let begin = Event::Begin { unit, runs: true };
-    assert_eq!(rt; push(alloc, &mut journal, write(alloc)?)?, (1, 0));
-    assert_eq!(rt; push(alloc, &mut journal, invoke(alloc)?)?, (2, 0));
-    assert_eq!(rt; push(alloc, &mut journal, round(alloc)?)?, (3, 0));
-    assert_eq!(rt; push(alloc, &mut journal, begin)?, (4, 0));
-    assert_eq!(rt; push(alloc, &mut journal, scan(alloc)?)?, (5, 2));
-    assert_eq!(rt; push(alloc, &mut journal, Event::Done { unit })?, (6, 2));
-    assert_eq!(rt; push(alloc, &mut journal, answer(alloc)?)?, (7, 2));
+    assert_eq!(rt; push(alloc, &mut journal, begin)?, (1, 0));
+    assert_eq!(rt; push(alloc, &mut journal, makes::scan(alloc)?)?, (2, 2));
+    assert_eq!(rt; push(alloc, &mut journal, makes::fetch(alloc)?)?, (3, 4));
+    assert_eq!(rt; push(alloc, &mut journal, makes::take(alloc)?)?, (4, 7));
+    assert_eq!(rt; push(alloc, &mut journal, Event::Done { unit })?, (5, 7));
+    Ok(())
+}
+
+#[test]
+fn copies_a_journal(rt: HostRuntime) -> Result<(), Fail> {
+    let alloc = rt.alloc();
+    let mut journal = started(alloc, small());
+    assert_eq!(rt; push(alloc, &mut journal, makes::scan(alloc)?)?, (1, 2));
     journal.note_idle(12)?;
     let copied = journal.copy(alloc)?;
-    assert_eq!(rt; copied.len(), 7);
+    assert_eq!(rt; copied.len(), 1);
     assert_eq!(rt; copied.weight(), 2);
-    assert_eq!(rt; copied.idle(1), Some(Idle { place: 7, line: 12 }));
-    assert!(rt; copies_command(alloc)?);
+    assert_eq!(rt; copied.idle(1), Some(Idle { place: 1, line: 12 }));
     Ok(())
 }

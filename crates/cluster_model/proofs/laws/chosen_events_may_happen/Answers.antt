@@ -1,4 +1,3 @@
--- Each choice tests its event.
 use Rattle.cluster_model.proofs.ChosenSteps.{chosen_may}
 use Rattle.cluster_model.proofs.laws.chosen_events_may_happen.Goals as goal
 

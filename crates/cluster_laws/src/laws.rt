@@ -1,0 +1,29 @@
+//! The laws. None does any work: a call of one hands what it ensures to the caller's proof.
+
+ghost use Rattle.cluster_laws.specs.Laws.{CopiesHold, EventsKeepAll, EventsTellTheState};
+ghost use Rattle.cluster_model.specs.Completion.{Completion};
+
+/// In every run of a cluster whose settings are in their limits, each live holder of a segment by
+/// the newest topology has exactly the cluster map's part of it, with all deadlines; and each live
+/// node that reads a segment by the topology that it has installed is such a holder.
+pub fn copies_hold()
+    ensures { CopiesHold }
+{}
+
+/// In every such run the live nodes, the newest topology, the topologies that nodes have
+/// installed and the clock are those that the events alone tell.
+pub fn events_tell_the_state()
+    ensures { EventsTellTheState }
+{}
+
+/// In every such run all parts stand that each event keeps.
+pub fn events_keep_all()
+    ensures { EventsKeepAll }
+{}
+
+/// In every such run each unit that runs or has ended has read, once, each entry of its segment
+/// that stood from its begin on and whose key isn't past the last key read; and nothing that stood
+/// so is past the last key once the last batch was read.
+pub fn units_are_completed()
+    ensures { Completion }
+{}

@@ -1,0 +1,6 @@
+//! Laws of every run of a cluster, whatever the order of its events.
+#![tactic(auto)]
+
+mod laws;
+
+pub use laws::{copies_hold, events_keep_all, events_tell_the_state, units_are_completed};

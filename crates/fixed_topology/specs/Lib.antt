@@ -1,0 +1,12 @@
+pub mod Same
+pub mod Cells
+pub mod State
+pub mod Owners
+pub mod Next
+pub mod Writes
+pub mod Calls
+pub mod Units
+pub mod Answers
+pub mod Step
+pub mod Commands
+pub mod Laws

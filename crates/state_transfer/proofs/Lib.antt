@@ -1,0 +1,5 @@
+pub mod CellLaws
+pub mod FaithfulLaws
+pub mod ChunkLaws
+pub mod LeavingLaws
+pub mod StepLaws

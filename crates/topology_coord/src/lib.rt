@@ -1,0 +1,3 @@
+//! The coordinator of a cluster: who is a member, which topology each node has installed, which
+//! topology is next, and which segments a departure loses.
+#![tactic(auto)]
