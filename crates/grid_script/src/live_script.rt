@@ -20,11 +20,11 @@ pub struct LiveScript {
 impl Model for LiveScript {
     ghost use Rattle.std.specs.Prelude.{◌≡◌, true};
     ghost use Rattle.grid_event.specs.Configs.{is_config};
-    ghost use Rattle.grid_script.specs.Scripts.{Lives, are_numbered};
+    ghost use Rattle.grid_script.specs.Scripts.{Lives};
 
     ghost Value = { Lives };
 
     ghost view = { λ script. record { config = script.config; load = script.load.list; changes = script.changes; sessions = script.sessions } };
 
-    ghost invariant = { λ script. (is_config script.config ≡ true) × (are_numbered 1 script.sessions ≡ true) };
+    ghost invariant = { λ script. is_config script.config ≡ true };
 }
