@@ -1,5 +1,5 @@
 -- The fields of a line: numbers, keys, values and pipelines, with a blank behind or as the line's last.
-use Rattle.std.specs.Prelude.{ℕ, suc, ◌+◌, List, [], ◌∷◌, length, Result, Ok, Err, Unit, tt, codes, Option, Some, None, nat_le, if◌then◌else◌}
+use Rattle.std.specs.Prelude.{ℕ, suc, ◌+◌, List, [], ◌∷◌, length, Result, Ok, Err, codes, Option, Some, None, nat_le, if◌then◌else◌}
 use Rattle.grid_base.specs.declared.limits.TheConstants.{LONGEST_LINE}
 use Rattle.grid_base.specs.declared.datum.Datum.{Datum}
 use Rattle.pipeline_expr.specs.declared.pipeline.Pipeline.{Pipeline}

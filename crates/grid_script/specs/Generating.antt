@@ -1,5 +1,5 @@
 -- The scripts of the generator.
-use Rattle.std.specs.Prelude.{ℕ, zero, suc, ◌+◌, ◌-◌, ◌*◌, ◌/◌, ◌%◌, ◌^◌, List, [], ◌∷◌, ◌++◌, length, codes, decimal, Option, Some, None, ℤ, pos, negsuc}
+use Rattle.std.specs.Prelude.{ℕ, zero, suc, ◌+◌, ◌-◌, ◌*◌, ◌/◌, ◌%◌, ◌^◌, List, [], ◌∷◌, ◌++◌, length, codes, decimal, Option, Some, None, ℤ, pos, negsuc, ◌==◌, if◌then◌else◌}
 use Rattle.delivery_mode.specs.declared.guarantee.Guarantee.TheVariants.{Exact}
 use Rattle.grid_base.specs.declared.datum.Datum.TheVariants as datum
 use Rattle.grid_event.specs.declared.command.Command.TheVariants as command
@@ -10,6 +10,7 @@ use Rattle.pipeline_expr.specs.declared.end.End.TheVariants as end
 use Rattle.pipeline_expr.specs.declared.expr.Expr.TheVariants as expr
 use Rattle.pipeline_expr.specs.declared.kind.ValueKind.TheVariants as values
 use Rattle.pipeline_expr.specs.declared.op.Op.TheVariants.{Filter}
+use Rattle.pipeline_expr.specs.declared.pipeline.Pipeline.{Pipeline}
 use Rattle.segment_hash.specs.declared.partition.Partition.TheVariants.{Plain}
 use Rattle.grid_script.specs.declared.order.Order.{Order}
 use Rattle.grid_script.specs.declared.order.Order.TheVariants.{One, Finish}
@@ -42,12 +43,13 @@ abbrev pub key_orders : ℕ → ℕ → List Order
 key_orders x zero = []
 key_orders x (suc n) = key_orders x n ++ key_order (quarter (state_after x (suc n))) n ∷ []
 
--- `call CALL NODE exact 64 100 filter (-1 < value) | END`
+-- `filter (-1 < value) | END`
+abbrev pub pipeline : End → Pipeline
+pipeline last = record { ops = Filter (expr.Less (expr.Lit (datum.Int (negsuc 0))) expr.Value) ∷ []; end = last }
+
+-- `call CALL NODE exact 64 100 PIPELINE`
 abbrev pub call_order : ℕ → ℕ → End → Order
-call_order call node last = One (command.Call 0 call node (record {
-  guarantee = Exact; rounds = 64; batch = 100;
-  pipeline = record { ops = Filter (expr.Less (expr.Lit (datum.Int (negsuc 0))) expr.Value) ∷ []; end = last };
-}))
+call_order call node last = One (command.Call 0 call node (record { guarantee = Exact; rounds = 64; batch = 100; pipeline = pipeline last }))
 
 -- `put 0 x I`
 abbrev pub spare_order : ℤ → Order
@@ -59,12 +61,11 @@ calls_orders =
     spare_order (negsuc 0) ∷ call_order 1 0 end.Count ∷ call_order 2 1 end.Each
     ∷ One (command.Round 1) ∷ One (command.Round 2) ∷ One (command.Join 4) ∷ []
 
--- a step by a draw: a put below zero, an advance, or a drive of a call
+-- a step by a draw: a put below zero, an advance, or a drive of one of the calls
 abbrev pub step_order : ℕ → ℕ → Order
-step_order 0 j = spare_order (negsuc j)
-step_order 1 j = One command.Advance
-step_order 2 j = One (command.Drive 1)
-step_order n j = One (command.Drive 2)
+step_order draw j =
+    if draw == 0 then spare_order (negsuc j)
+    else (if draw == 1 then One command.Advance else (if draw == 2 then One (command.Drive 1) else One (command.Drive 2)))
 
 -- so many steps, each by a draw
 abbrev pub step_orders : ℕ → ℕ → List Order

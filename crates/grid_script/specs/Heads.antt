@@ -1,5 +1,5 @@
 -- What the calls that read the head of a script tell.
-use Rattle.std.specs.Prelude.{◌≡◌, List, Option, Some, None, Result, Ok, Err, Unit, if◌then◌else◌}
+use Rattle.std.specs.Prelude.{◌≡◌, List, Option, Some, None, Result, Ok, Err, if◌then◌else◌}
 use Rattle.grid_event.specs.declared.config.Config.{Config}
 use Rattle.grid_script.specs.declared.head_words.Setting.{Setting}
 use Rattle.grid_script.specs.declared.script_fault.ScriptFault.{ScriptFault}
@@ -18,8 +18,3 @@ abbrev pub Heads : Result Head ScriptFault → Told (Behind Config) → Type 0
 Heads (Ok head) told = told ≡ Ok (behind_of head)
 Heads (Err (Refused line reason)) told = told ≡ Err (line, reason)
 Heads (Err NoMemory) told = Unit {0}
-
--- the configuration behind a line, or none where the line says nothing
-unfoldable pub setting_line_in : Config → Setting → Line → Judged (Option Config)
-setting_line_in config setting line = is_whole line >>= (λ whole.
-    if says_nothing line.bytes then Ok None else (setting_in config setting line.bytes >>= (λ next. Ok (Some next))))

@@ -1,5 +1,5 @@
 -- What a line gives, or why it is refused; and what a call tells of it.
-use Rattle.std.specs.Prelude.{◌≡◌, ℕ, Bool, List, Result, Ok, Err, Unit, tt, if◌then◌else◌}
+use Rattle.std.specs.Prelude.{◌≡◌, ℕ, Bool, List, Result, Ok, Err, if◌then◌else◌}
 use Rattle.std.specs.Borrow.{Bor}
 use Rattle.pipeline_parse.specs.declared.halt.Unread.{Unread}
 use Rattle.grid_script.specs.declared.reason.Reason.{Reason}

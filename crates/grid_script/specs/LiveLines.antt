@@ -1,5 +1,5 @@
 -- The lines of a script of a live run: a definition for each kind of line, in the order in which its faults are told.
-use Rattle.std.specs.Prelude.{◌≡◌, ℕ, suc, ◌+◌, ◌≤◌, Bool, true, false, ◌&&◌, ◌==◌, nat_le, nat_lt, List, [], ◌∷◌, ◌++◌, length, Result, Ok, Err, Unit, if◌then◌else◌}
+use Rattle.std.specs.Prelude.{◌≡◌, ℕ, suc, ◌+◌, ◌≤◌, Bool, true, false, ◌&&◌, ◌==◌, nat_le, nat_lt, List, [], ◌∷◌, ◌++◌, length, Result, Ok, Err, if◌then◌else◌}
 use Rattle.std.specs.FinSet as set
 use Rattle.grid_base.specs.declared.datum.Datum.{Datum}
 use Rattle.grid_base.specs.declared.entry.Entry.{Entry}
@@ -54,6 +54,11 @@ abbrev pub all_sessions : List Session → Section → List Session
 all_sessions complete (section.Session session) = complete ++ session ∷ []
 all_sessions complete _ = complete
 
+-- how many sessions were begun
+abbrev pub sessions_begun : List Session → Section → ℕ
+sessions_begun complete (section.Session session) = length complete + 1
+sessions_begun complete _ = length complete
+
 -- `load` opens the script
 unfoldable pub load_in : LiveKnown → List ℕ → Judged LiveTold
 load_in known s = do
@@ -83,7 +88,7 @@ unfoldable pub session_in : LiveKnown → List ℕ → Judged LiveTold
 session_in known s = do
   first ← spelt (number_field s)
   second ← spelt (last_number first.1)
-  number ← session_within (length (all_sessions known.sessions known.section)) first.0
+  number ← session_within (sessions_begun known.sessions known.section) first.0
   home ← home_within known.config.nodes second
   Ok (Opens (section.Session (record { number = number; home = home; orders = [] })))
 
@@ -184,6 +189,13 @@ calls_with calls _ = calls
 abbrev pub section_with : Section → Deed → Section
 section_with (section.Session session) deed = section.Session (record { number = session.number; home = session.home; orders = session.orders ++ deed ∷ [] })
 section_with other deed = other
+
+-- what is known, with other members
+unfoldable pub with_members : LiveKnown → Members → LiveKnown
+with_members known members = record {
+  config = known.config; members = members; calls = known.calls; section = known.section;
+  load = known.load; changes = known.changes; sessions = known.sessions;
+}
 
 -- what is known behind a line that tells this
 unfoldable pub with_told : LiveKnown → LiveTold → LiveKnown

@@ -1,5 +1,5 @@
 -- The script that bytes stand for, or the first line at fault with the first reason that applies to it.
-use Rattle.std.specs.Prelude.{ℕ, zero, suc, ◌<◌, Bool, nat_lt, List, [], ◌∷◌, ◌++◌, length, Result, Ok, Err, Unit, if◌then◌else◌}
+use Rattle.std.specs.Prelude.{ℕ, zero, suc, ◌<◌, Bool, nat_lt, List, [], ◌∷◌, ◌++◌, length, Result, Ok, Err, if◌then◌else◌}
 use Rattle.std.specs.Ordering.{nat_cmp}
 use Rattle.std.specs.FinSet as set
 use Rattle.grid_base.specs.declared.limits.TheConstants.{LONGEST_SCRIPT}
@@ -33,20 +33,15 @@ unfoldable pub step_after : Known → ℕ → Line → Judged Known
 step_after known n line = is_whole line >>= (λ whole.
     if says_nothing line.bytes then Ok known else (order_in known line.bytes >>= (λ order. Ok (with_order known n order))))
 
--- what is known behind some lines of a stepped run, the first of which has this number
-abbrev pub steps_after : Known → ℕ → List Line → Told Known
-steps_after known n [] = Ok known
-steps_after known n (line ∷ lines) = on_line n (step_after known n line) >>= (λ next. steps_after next (suc n) lines)
+-- what is known behind some lines, the first of which has this number, or the first line at fault
+abbrev pub after_all : {A : Type 0} → (A → ℕ → Line → Judged A) → A → ℕ → List Line → Told A
+after_all step known n [] = Ok known
+after_all step known n (line ∷ lines) = on_line n (step known n line) >>= (λ next. after_all step next (suc n) lines)
 
 -- what is known behind a line of a live run
-unfoldable pub live_after : LiveKnown → Line → Judged LiveKnown
-live_after known line = is_whole line >>= (λ whole.
+unfoldable pub live_after : LiveKnown → ℕ → Line → Judged LiveKnown
+live_after known n line = is_whole line >>= (λ whole.
     if says_nothing line.bytes then Ok known else (told_in known line.bytes >>= (λ told. Ok (with_told known told))))
-
--- what is known behind some lines of a live run, the first of which has this number
-abbrev pub lives_after : LiveKnown → ℕ → List Line → Told LiveKnown
-lives_after known n [] = Ok known
-lives_after known n (line ∷ lines) = on_line n (live_after known line) >>= (λ next. lives_after next (suc n) lines)
 
 -- what is known of a stepped run before its first line
 abbrev pub step_start : Config → Known
@@ -61,8 +56,8 @@ live_start config = record {
 
 -- the script of the lines behind the head
 unfoldable pub body_of : ScriptKind → Behind Config → Told Script
-body_of kind.Step head = steps_after (step_start head.it) head.next head.lines >>= (λ known. Ok (script.Step (record { config = known.config; lines = known.lines })))
-body_of kind.Live head = lives_after (live_start head.it) head.next head.lines >>= (λ known. Ok (script.Live (record {
+body_of kind.Step head = after_all step_after (step_start head.it) head.next head.lines >>= (λ known. Ok (script.Step (record { config = known.config; lines = known.lines })))
+body_of kind.Live head = after_all live_after (live_start head.it) head.next head.lines >>= (λ known. Ok (script.Live (record {
   config = known.config; load = known.load; changes = known.changes; sessions = all_sessions known.sessions known.section;
 })))
 

@@ -1,5 +1,5 @@
 -- The head of a script: its kind, and the settings of the cluster in their order.
-use Rattle.std.specs.Prelude.{ℕ, suc, Bool, true, false, List, [], ◌∷◌, Result, Ok, Err, Unit, codes, if◌then◌else◌}
+use Rattle.std.specs.Prelude.{ℕ, suc, Bool, true, false, List, [], ◌∷◌, Option, Some, None, Result, Ok, Err, codes, if◌then◌else◌}
 use Rattle.grid_base.specs.declared.limits.TheConstants.{MOST_CHUNK, MOST_NODES, MOST_OWNERS, MOST_SEGMENTS}
 use Rattle.grid_event.specs.declared.config.Config.{Config}
 use Rattle.segment_hash.specs.declared.partition.Partition.{Partition}
@@ -114,12 +114,20 @@ pub record Behind (A : Type 0) : Type 0 where
   pub next : ℕ
   pub lines : List Line
 
+-- the configuration behind a line, or none where the line says nothing
+unfoldable pub setting_line_in : Config → Setting → Line → Judged (Option Config)
+setting_line_in config setting line = is_whole line >>= (λ whole.
+    if says_nothing line.bytes then Ok None else (setting_in config setting line.bytes >>= (λ next. Ok (Some next))))
+
+-- a setting that was found in a line, or what a later line says
+abbrev pub found_or : Told (Behind Config) → ℕ → List Line → Option Config → Told (Behind Config)
+found_or later n lines None = later
+found_or later n lines (Some config) = Ok (record { it = config; next = suc n; lines = lines })
+
 -- a setting stands in the next line that says something; where there is none, the line behind the last is at fault
-unfoldable pub setting_from : Config → Setting → ℕ → List Line → Told (Behind Config)
+abbrev pub setting_from : Config → Setting → ℕ → List Line → Told (Behind Config)
 setting_from config setting n [] = Err (n, Syntax)
-setting_from config setting n (line ∷ lines) = on_line n (is_whole line) >>= (λ whole.
-    if says_nothing line.bytes then setting_from config setting (suc n) lines
-    else (on_line n (setting_in config setting line.bytes) >>= (λ next. Ok (record { it = next; next = suc n; lines = lines }))))
+setting_from config setting n (line ∷ lines) = on_line n (setting_line_in config setting line) >>= found_or (setting_from config setting (suc n) lines) n lines
 
 -- the settings stand one behind the other
 unfoldable pub settings_from : Config → List Setting → ℕ → List Line → Told (Behind Config)

@@ -1,6 +1,6 @@
 //! Sets of calls.
 
-ghost use Rattle.std.specs.Prelude.{◌≡◌, ◌≤◌, IfOk};
+ghost use Rattle.std.specs.Prelude.{◌≡◌, ◌≤◌, ◌<◌, false, length, slice_index_or, IfOk};
 ghost use Rattle.std.specs.FinSet as set;
 ghost use Rattle.grid_base.specs.declared.limits.TheConstants.{LAST_CALL};
 
@@ -55,7 +55,14 @@ impl CallSet {
         requires { call ≤ LAST_CALL }
         ensures { result ≡ set.contains self.now call }
     {
-        let place = call.number() as usize;
-        self.marks[place]
+        mark_of(self.marks.as_slice(), call)
     }
+}
+
+/// The mark of a call.
+fn mark_of(marks: &[bool], call: CallId) -> bool
+    requires { call < length marks.now }
+    ensures { result ≡ slice_index_or marks.now call false }
+{
+    marks[call.number() as usize]
 }

@@ -21,6 +21,7 @@ pub(crate) struct Cut<'a> {
 }
 
 /// Cuts off the first line of a text.
+#[tactic(auto, using(crate::proofs::Cutting::first_of, crate::proofs::Cutting::last_of))]
 pub(crate) fn first_line(text: &[u8]) -> Cut<'_>
     requires { 0 < length text.now }
     ensures cut { lines_of text.now ≡ record { bytes = result.line.now; ended = result.ended } ∷ lines_of result.rest.now }

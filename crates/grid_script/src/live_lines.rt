@@ -1,9 +1,9 @@
 //! Reading the lines of a script of a live run.
 
-ghost use Rattle.std.specs.Prelude.{◌≡◌, ◌≤◌, true, length, IfOk};
+ghost use Rattle.std.specs.Prelude.{◌≡◌, ◌≤◌, ◌+◌, ◌==◌, ◌&&◌, nat_le, true, length, IfOk};
 ghost use Rattle.grid_event.specs.Configs.{is_config};
 ghost use Rattle.grid_script.specs.Judging.{Says};
-ghost use Rattle.grid_script.specs.LiveLines.{AreNoted, all_sessions, changes_in, entry_in, home_within, is_changes, is_session, is_start, live_call_in, live_erase_in, live_fields_in, live_put_in, load_in, may_change, may_put, member_depart_in, member_join_in, put_told, session_in, session_within, told_in};
+ghost use Rattle.grid_script.specs.LiveLines.{AreNoted, all_sessions, changes_in, entry_in, home_within, is_changes, is_session, is_start, live_call_in, live_erase_in, live_fields_in, live_put_in, load_in, may_change, may_put, member_depart_in, member_join_in, put_told, session_in, session_within, sessions_begun, told_in};
 
 use crate::deed::Deed;
 use crate::line_fault::LineFault;
@@ -90,21 +90,28 @@ fn read_changes(known: &LiveKnown, text: &[u8]) -> Result<LiveTold, LineFault>
     Ok(LiveTold::Opens(Section::Changes))
 }
 
-/// How many sessions were begun.
-fn sessions_begun(known: &LiveKnown) -> usize
-    ensures { result ≡ length (all_sessions known.now.sessions known.now.section) }
+/// Whether a number is that of the next session, of which there are at most 16.
+fn is_next_session(known: &LiveKnown, number: u32) -> bool
+    ensures { result ≡ ((number == sessions_begun known.now.sessions known.now.section + 1) && nat_le number 16) }
 {
+    if number > MOST_SESSIONS {
+        return false;
+    }
+    let complete = known.sessions.len();
+    if complete > MOST_SESSIONS as usize {
+        return false;
+    }
     match known.section {
-        Section::Session(_) => known.sessions.len() + 1,
-        _ => known.sessions.len(),
+        Section::Session(_) => number as usize == complete + 2,
+        _ => number as usize == complete + 1,
     }
 }
 
-/// The session of a number, which follows on that of the sessions before and is at most 16.
-fn session_within(before: usize, number: u32) -> Result<SessionId, LineFault>
-    ensures { Says result (session_within before number) }
+/// The session of the next number.
+fn session_within(known: &LiveKnown, number: u32) -> Result<SessionId, LineFault>
+    ensures { Says result (session_within (sessions_begun known.now.sessions known.now.section) number) }
 {
-    if before < MOST_SESSIONS as usize && number as usize == before + 1 {
+    if is_next_session(known, number) {
         Ok(SessionId::new(number as u16))
     } else {
         Err(LineFault::Refused(Reason::OverLimit))
@@ -132,7 +139,7 @@ fn read_session(alloc: Global, known: &LiveKnown, text: &[u8]) -> Result<LiveTol
 {
     let (first, rest) = read_number_field(text)?;
     let second = read_last_number(rest)?;
-    let number = session_within(sessions_begun(known), first)?;
+    let number = session_within(known, first)?;
     let home = home_within(known.config.nodes, second)?;
     Ok(LiveTold::Opens(Section::Session(Session {
         number,
@@ -172,10 +179,14 @@ fn read_member_depart(known: &LiveKnown, text: &[u8]) -> Result<LiveTold, LineFa
 fn read_entry(alloc: Global, text: &[u8]) -> Result<Entry, LineFault>
     ensures { Says result (entry_in text.now) }
 {
-    let (key, rest) = read_key_field(text)?;
-    let (value, rest) = read_datum(alloc, rest)?;
-    read_end(rest)?;
-    Ok(Entry { key, value })
+    match read_key_field(text) {
+        Ok((key, rest)) => {
+            let (value, rest) = read_datum(alloc, rest)?;
+            read_end(rest)?;
+            Ok(Entry { key, value })
+        }
+        Err(unread) => Err(LineFault::from(unread)),
+    }
 }
 
 /// What a put tells: an entry of the load, or a deed of the session.

@@ -11,7 +11,7 @@ use crate::rules::needs;
 use grid_base::{NodeId, NodeSet};
 
 /// The nodes that were members at some time, and those of them that are live.
-#[derive(Clone, Copy, Debug)]
+#[derive(Debug, Drop)]
 pub(crate) struct Members {
     pub ever: NodeSet,
     pub live: NodeSet,

@@ -61,9 +61,13 @@ pub fn read_last_number(text: &[u8]) -> Result<u32, Unread>
 pub fn read_key_field(text: &[u8]) -> Result<(Key, &[u8]), Unread>
     ensures { Reads result (key_field text.now) }
 {
-    let (key, rest) = read_key(text)?;
-    let rest = read_blank(rest)?;
-    Ok((key, rest))
+    match read_key(text) {
+        Ok((key, rest)) => {
+            let rest = read_blank(rest)?;
+            Ok((key, rest))
+        }
+        Err(unread) => Err(unread),
+    }
 }
 
 /// Reads a key that ends the line. It takes no memory.
@@ -71,12 +75,17 @@ pub fn read_key_field(text: &[u8]) -> Result<(Key, &[u8]), Unread>
 pub fn read_last_key(text: &[u8]) -> Result<Key, Unread>
     ensures { Tells result (last_key text.now) }
 {
-    let (key, rest) = read_key(text)?;
-    read_end(rest)?;
-    Ok(key)
+    match read_key(text) {
+        Ok((key, rest)) => {
+            read_end(rest)?;
+            Ok(key)
+        }
+        Err(unread) => Err(unread),
+    }
 }
 
 /// Reads the pipeline whose text this is. A text of more than 1,024 bytes stands in no line.
+#[tactic(auto, using(crate::proofs::Pipelines::pipeline_found, crate::proofs::Pipelines::pipeline_none, crate::proofs::Pipelines::pipeline_long))]
 pub(crate) fn read_pipeline(alloc: Global, text: &[u8]) -> Result<Pipeline, LineFault>
     ensures { Says result (spelt (pipeline_of text.now)) }
 {

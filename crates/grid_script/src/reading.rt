@@ -1,14 +1,13 @@
 //! Reading scripts.
 
-ghost use Rattle.std.specs.Prelude.{◌≡◌, ◌+◌, ◌<◌, ◌≤◌, ◌^◌, true, length, IfOk};
+ghost use Rattle.std.specs.Prelude.{◌≡◌, ℕ, ◌+◌, ◌<◌, ◌≤◌, ◌^◌, true, length, IfOk};
 ghost use Rattle.grid_base.specs.declared.limits.TheConstants.{LAST_CLOCK, LONGEST_SCRIPT};
 ghost use Rattle.grid_event.specs.Configs.{is_config};
 ghost use Rattle.grid_script.specs.Judging.{Answers, Says};
 ghost use Rattle.grid_script.specs.Lines.{Line, lines_of};
-ghost use Rattle.grid_script.specs.LiveLines.{AreNoted, all_sessions, calls_with, members_with, section_with, with_told};
-ghost use Rattle.grid_script.specs.Reading.{body_of, live_after, live_start, lives_after, script_of, step_after, step_start, steps_after};
+ghost use Rattle.grid_script.specs.LiveLines.{AreNoted, all_sessions, calls_with, members_with, section_with, with_members, with_told};
+ghost use Rattle.grid_script.specs.Reading.{after_all, body_of, live_after, live_start, script_of, step_after, step_start};
 ghost use Rattle.grid_script.specs.StepLines.{IsNoted, noted, with_order};
-ghost use Rattle.grid_script.specs.Heads.{behind_of};
 
 use crate::call_set::CallSet;
 use crate::deed::Deed;
@@ -29,11 +28,11 @@ use crate::script_fault::ScriptFault;
 use crate::script_kind::ScriptKind;
 use crate::section::Section;
 use crate::session::Session;
-use crate::settings::{Head, read_head};
+use crate::settings::read_head;
 use crate::step_line::StepLine;
 use crate::step_lines::read_order;
 use crate::step_script::StepScript;
-use grid_base::NoMemory;
+use grid_base::{Entry, NoMemory};
 use grid_base::limits::LONGEST_SCRIPT;
 use grid_event::{Command, Config};
 use sqlite_items::Items;
@@ -55,8 +54,8 @@ pub fn read_script(alloc: Global, bytes: &[u8], kind: ScriptKind) -> Result<Scri
     }
     let head = read_head(kind, bytes)?;
     match kind {
-        ScriptKind::Step => read_step_script(alloc, head),
-        ScriptKind::Live => read_live_script(alloc, head),
+        ScriptKind::Step => read_step_script(alloc, head.config, head.number, head.rest),
+        ScriptKind::Live => read_live_script(alloc, head.config, head.number, head.rest),
     }
 }
 
@@ -139,7 +138,7 @@ fn steps_after(
     requires settings { is_config known.config ≡ true }
     requires ticks { known.ticks ≤ LAST_CLOCK }
     requires lines { number + length text.now < 2 ^ 32 }
-    ensures told { Answers result (steps_after known number (lines_of text.now)) }
+    ensures told { Answers result (after_all step_after known number (lines_of text.now)) }
     ensures settings { IfOk result (λ next. is_config next.config ≡ true) }
 {
     let mut known = known;
@@ -159,13 +158,18 @@ fn steps_after(
 
 /// Reads the script of a stepped run behind its head.
 #[tactic(auto, unfolding(crate::specs::Reading::body_of))]
-fn read_step_script(alloc: Global, head: Head<'_>) -> Result<Script, ScriptFault>
-    requires settings { is_config head.config ≡ true }
-    requires lines { head.number + length head.rest.now < 2 ^ 32 }
-    ensures { Answers result (body_of ScriptKind.Step (behind_of head)) }
+fn read_step_script(
+    alloc: Global,
+    config: Config,
+    number: u32,
+    text: &[u8],
+) -> Result<Script, ScriptFault>
+    requires settings { is_config config ≡ true }
+    requires lines { number + length text.now < 2 ^ 32 }
+    ensures { Answers result (body_of ScriptKind.Step (record { it = config; next = number; lines = lines_of text.now })) }
 {
-    let start = step_start(alloc, head.config)?;
-    let known = steps_after(alloc, start, head.number, head.rest)?;
+    let start = step_start(alloc, config)?;
+    let known = steps_after(alloc, start, number, text)?;
     Ok(Script::Step(StepScript {
         config: known.config,
         lines: known.lines,
@@ -173,13 +177,14 @@ fn read_step_script(alloc: Global, head: Head<'_>) -> Result<Script, ScriptFault
 }
 
 /// Notes the change of the membership.
-fn note_member(members: &mut Members, member: Member)
-    requires { AreNoted (LiveTold.Changes member) }
-    ensures { members.new ≡ members_with members.old member }
+#[tactic(auto, unfolding(crate::specs::LiveLines::with_members))]
+fn note_change(known: &mut LiveKnown, member: &Member)
+    requires { AreNoted (LiveTold.Changes member.now) }
+    ensures { known.new ≡ with_members known.old (members_with known.old.members member.now) }
 {
     match member {
-        Member::Join(node) => members.note_join(node),
-        Member::Depart(node) => members.note_depart(node),
+        Member::Join(node) => known.members.note_join(*node),
+        Member::Depart(node) => known.members.note_depart(*node),
     }
 }
 
@@ -232,29 +237,94 @@ fn all_sessions(
     }
 }
 
-/// What is known behind a line that tells this.
+/// What is known behind a line that begins a section.
 #[tactic(auto, unfolding(crate::specs::LiveLines::with_told))]
+fn with_section(known: LiveKnown, section: Section) -> Result<LiveKnown, NoMemory>
+    ensures { IfOk result (λ made. made ≡ with_told known (LiveTold.Opens section)) }
+{
+    let LiveKnown {
+        config,
+        members,
+        calls,
+        section: before,
+        load,
+        changes,
+        sessions,
+    } = known;
+    let sessions = all_sessions(sessions, before)?;
+    Ok(LiveKnown {
+        config,
+        members,
+        calls,
+        section,
+        load,
+        changes,
+        sessions,
+    })
+}
+
+/// What is known behind a line that changes the membership.
+#[tactic(auto, unfolding(crate::specs::LiveLines::with_told, crate::specs::LiveLines::with_members))]
+fn with_change(known: LiveKnown, member: Member) -> Result<LiveKnown, NoMemory>
+    requires { AreNoted (LiveTold.Changes member) }
+    ensures { IfOk result (λ made. made ≡ with_told known (LiveTold.Changes member)) }
+{
+    let mut known = known;
+    note_change(&mut known, &member);
+    known.changes.push(member)?;
+    Ok(known)
+}
+
+/// What is known behind a line that loads an entry.
+#[tactic(auto, unfolding(crate::specs::LiveLines::with_told))]
+fn with_entry(known: LiveKnown, entry: Entry) -> Result<LiveKnown, NoMemory>
+    ensures { IfOk result (λ made. made ≡ with_told known (LiveTold.Loads entry)) }
+{
+    let mut known = known;
+    known.load.push(entry)?;
+    Ok(known)
+}
+
+/// What is known behind a line that says a deed of the session.
+#[tactic(auto, unfolding(crate::specs::LiveLines::with_told))]
+fn with_deed(known: LiveKnown, deed: Deed) -> Result<LiveKnown, NoMemory>
+    requires { AreNoted (LiveTold.Does deed) }
+    ensures { IfOk result (λ made. made ≡ with_told known (LiveTold.Does deed)) }
+{
+    let LiveKnown {
+        config,
+        members,
+        calls,
+        section,
+        load,
+        changes,
+        sessions,
+    } = known;
+    let mut calls = calls;
+    note_call(&mut calls, &deed);
+    let section = section_with(section, deed)?;
+    Ok(LiveKnown {
+        config,
+        members,
+        calls,
+        section,
+        load,
+        changes,
+        sessions,
+    })
+}
+
+/// What is known behind a line that tells this.
 fn with_told(known: LiveKnown, told: LiveTold) -> Result<LiveKnown, NoMemory>
     requires { AreNoted told }
     ensures { IfOk result (λ made. made ≡ with_told known told) }
 {
-    let mut known = known;
     match told {
-        LiveTold::Opens(section) => {
-            known.sessions = all_sessions(known.sessions, known.section)?;
-            known.section = section;
-        }
-        LiveTold::Changes(member) => {
-            note_member(&mut known.members, member);
-            known.changes.push(member)?;
-        }
-        LiveTold::Loads(entry) => known.load.push(entry)?,
-        LiveTold::Does(deed) => {
-            note_call(&mut known.calls, &deed);
-            known.section = section_with(known.section, deed)?;
-        }
+        LiveTold::Opens(section) => with_section(known, section),
+        LiveTold::Changes(member) => with_change(known, member),
+        LiveTold::Loads(entry) => with_entry(known, entry),
+        LiveTold::Does(deed) => with_deed(known, deed),
     }
-    Ok(known)
 }
 
 /// What is known behind a line of a live run.
@@ -266,7 +336,7 @@ fn live_after(
     ended: bool,
 ) -> Result<LiveKnown, LineFault>
     requires settings { is_config known.config ≡ true }
-    ensures judged { Says result (live_after known (record { bytes = line.now; ended = ended })) }
+    ensures judged { (number : ℕ) → Says result (live_after known number (record { bytes = line.now; ended = ended })) }
     ensures settings { IfOk result (λ next. is_config next.config ≡ true) }
 {
     is_whole(line, ended)?;
@@ -304,7 +374,7 @@ fn lives_after(
 ) -> Result<LiveKnown, ScriptFault>
     requires settings { is_config known.config ≡ true }
     requires lines { number + length text.now < 2 ^ 32 }
-    ensures told { Answers result (lives_after known number (lines_of text.now)) }
+    ensures told { Answers result (after_all live_after known number (lines_of text.now)) }
     ensures settings { IfOk result (λ next. is_config next.config ≡ true) }
 {
     let mut known = known;
@@ -324,13 +394,18 @@ fn lives_after(
 
 /// Reads the script of a live run behind its head.
 #[tactic(auto, unfolding(crate::specs::Reading::body_of))]
-fn read_live_script(alloc: Global, head: Head<'_>) -> Result<Script, ScriptFault>
-    requires settings { is_config head.config ≡ true }
-    requires lines { head.number + length head.rest.now < 2 ^ 32 }
-    ensures { Answers result (body_of ScriptKind.Live (behind_of head)) }
+fn read_live_script(
+    alloc: Global,
+    config: Config,
+    number: u32,
+    text: &[u8],
+) -> Result<Script, ScriptFault>
+    requires settings { is_config config ≡ true }
+    requires lines { number + length text.now < 2 ^ 32 }
+    ensures { Answers result (body_of ScriptKind.Live (record { it = config; next = number; lines = lines_of text.now })) }
 {
-    let start = live_start(alloc, head.config)?;
-    let known = lives_after(alloc, start, head.number, head.rest)?;
+    let start = live_start(alloc, config)?;
+    let known = lives_after(alloc, start, number, text)?;
     let sessions = all_sessions(known.sessions, known.section)?;
     Ok(Script::Live(LiveScript {
         config: known.config,

@@ -5,8 +5,8 @@ ghost use Rattle.grid_base.specs.declared.limits.TheConstants.{LONGEST_SCRIPT};
 ghost use Rattle.grid_event.specs.Configs.{is_config};
 ghost use Rattle.grid_script.specs.Judging.{Says};
 ghost use Rattle.grid_script.specs.Lines.{Line, lines_of};
-ghost use Rattle.grid_script.specs.Settings.{head_of, is_kind_line, number_within, partition_in, same_kind, setting_from, setting_in, settings, settings_from, unset, values_in, with_setting};
-ghost use Rattle.grid_script.specs.Heads.{Heads, setting_line_in};
+ghost use Rattle.grid_script.specs.Settings.{head_of, is_kind_line, number_within, partition_in, same_kind, setting_from, setting_in, setting_line_in, settings, settings_from, unset, values_in, with_setting};
+ghost use Rattle.grid_script.specs.Heads.{Heads};
 
 use crate::head_words::{Setting, read_kind, read_partition_word, read_values_word, setting_word};
 use crate::line_fault::LineFault;
@@ -137,7 +137,7 @@ fn read_setting_text(config: Config, setting: Setting, text: &[u8]) -> Result<Co
 }
 
 /// The settings behind a line, or none where it says nothing.
-#[tactic(auto, unfolding(crate::specs::Heads::setting_line_in))]
+#[tactic(auto, unfolding(crate::specs::Settings::setting_line_in))]
 fn read_setting_line(
     config: Config,
     setting: Setting,
@@ -157,54 +157,57 @@ fn read_setting_line(
 }
 
 /// Reads a setting, which stands in the next line that says something.
-fn read_setting<'a>(head: Head<'a>, setting: Setting) -> Result<Head<'a>, ScriptFault>
-    requires settings { is_config head.config ≡ true }
-    requires lines { head.number + length head.rest.now < 2 ^ 32 }
-    ensures told { Heads result (setting_from head.config setting head.number (lines_of head.rest.now)) }
+fn read_setting(
+    config: Config,
+    setting: Setting,
+    number: u32,
+    text: &[u8],
+) -> Result<Head<'_>, ScriptFault>
+    requires settings { is_config config ≡ true }
+    requires lines { number + length text.now < 2 ^ 32 }
+    ensures told { Heads result (setting_from config setting number (lines_of text.now)) }
     ensures limits { IfOk result (λ next. is_config next.config ≡ true) }
-    ensures lines { IfOk result (λ next. next.number + length next.rest.now ≤ head.number + length head.rest.now) }
+    ensures lines { IfOk result (λ next. next.number + length next.rest.now ≤ number + length text.now) }
 {
-    let config = head.config;
-    let mut number = head.number;
-    let mut rest = head.rest;
+    let mut line = number;
+    let mut rest = text;
     'lines: while !rest.is_empty() {
         let cut = first_line(rest);
         match read_setting_line(config, setting, cut.line, cut.ended) {
             Ok(None) => {
-                number += 1;
+                line += 1;
                 rest = cut.rest;
             }
             Ok(Some(config)) => {
                 return Ok(Head {
                     config,
-                    number: number + 1,
+                    number: line + 1,
                     rest: cut.rest,
                 });
             }
-            Err(fault) => return Err(on_line(number, fault)),
+            Err(fault) => return Err(on_line(line, fault)),
         }
     }
     Err(ScriptFault::Refused {
-        line: number,
+        line,
         reason: Reason::Syntax,
     })
 }
 
-/// Reads the settings, one behind the other.
+/// Reads the settings, one behind the other, from the line of this number on.
 #[tactic(auto, unfolding(crate::specs::Settings::settings_from))]
-fn read_settings<'a>(head: Head<'a>) -> Result<Head<'a>, ScriptFault>
-    requires settings { is_config head.config ≡ true }
-    requires lines { head.number + length head.rest.now < 2 ^ 32 }
-    ensures told { Heads result (settings_from head.config settings head.number (lines_of head.rest.now)) }
+fn read_settings(number: u32, text: &[u8]) -> Result<Head<'_>, ScriptFault>
+    requires { number + length text.now < 2 ^ 32 }
+    ensures told { Heads result (settings_from unset settings number (lines_of text.now)) }
     ensures limits { IfOk result (λ next. is_config next.config ≡ true) }
-    ensures lines { IfOk result (λ next. next.number + length next.rest.now ≤ head.number + length head.rest.now) }
+    ensures lines { IfOk result (λ next. next.number + length next.rest.now ≤ number + length text.now) }
 {
-    let head = read_setting(head, Setting::Nodes)?;
-    let head = read_setting(head, Setting::Segments)?;
-    let head = read_setting(head, Setting::Owners)?;
-    let head = read_setting(head, Setting::Partition)?;
-    let head = read_setting(head, Setting::Values)?;
-    read_setting(head, Setting::Chunk)
+    let head = read_setting(unset(), Setting::Nodes, number, text)?;
+    let head = read_setting(head.config, Setting::Segments, head.number, head.rest)?;
+    let head = read_setting(head.config, Setting::Owners, head.number, head.rest)?;
+    let head = read_setting(head.config, Setting::Partition, head.number, head.rest)?;
+    let head = read_setting(head.config, Setting::Values, head.number, head.rest)?;
+    read_setting(head.config, Setting::Chunk, head.number, head.rest)
 }
 
 /// Whether two kinds of scripts are one.
@@ -230,6 +233,7 @@ fn is_kind_line(kind: ScriptKind, line: &[u8], ended: bool) -> Result<(), LineFa
 }
 
 /// Reads the head of a script.
+#[tactic(auto, unfolding(crate::specs::Settings::head_of))]
 pub(crate) fn read_head(kind: ScriptKind, text: &[u8]) -> Result<Head<'_>, ScriptFault>
     requires { length text.now ≤ LONGEST_SCRIPT }
     ensures told { Heads result (head_of kind (lines_of text.now)) }
@@ -244,11 +248,7 @@ pub(crate) fn read_head(kind: ScriptKind, text: &[u8]) -> Result<Head<'_>, Scrip
     }
     let cut = first_line(text);
     match is_kind_line(kind, cut.line, cut.ended) {
-        Ok(()) => read_settings(Head {
-            config: unset(),
-            number: 2,
-            rest: cut.rest,
-        }),
+        Ok(()) => read_settings(2, cut.rest),
         Err(fault) => Err(on_line(1, fault)),
     }
 }

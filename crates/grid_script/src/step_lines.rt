@@ -38,15 +38,19 @@ fn read_put_words(alloc: Global, text: &[u8]) -> Result<PutWords, LineFault>
     ensures { Says result (put_words text.now) }
 {
     let (node, rest) = read_number_field(text)?;
-    let (key, rest) = read_key_field(rest)?;
-    let (datum, rest) = read_datum(alloc, rest)?;
-    let lifespan = read_lifespan(rest)?;
-    Ok(PutWords {
-        node,
-        key,
-        datum,
-        lifespan,
-    })
+    match read_key_field(rest) {
+        Ok((key, rest)) => {
+            let (datum, rest) = read_datum(alloc, rest)?;
+            let lifespan = read_lifespan(rest)?;
+            Ok(PutWords {
+                node,
+                key,
+                datum,
+                lifespan,
+            })
+        }
+        Err(unread) => Err(LineFault::from(unread)),
+    }
 }
 
 /// `put NODE KEY DATUM`, or that with ` for LIFESPAN`.
