@@ -1,9 +1,6 @@
-pub mod LineReads
-pub mod Numbers
-pub mod OrderReads
-pub mod OrderTexts
-pub mod Progress
-pub mod Refusing
-pub mod SettingsReads
-pub mod Splitting
-pub mod Uniqueness
+pub mod Cutting
+pub mod Pipelines
+pub mod CallSets
+pub mod Following
+pub mod Numbering
+pub mod Keeping

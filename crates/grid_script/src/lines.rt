@@ -1,103 +1,71 @@
-//! Reading the lines of a script.
+//! Cutting a script into its lines.
 
-ghost use Rattle.std.specs.Prelude.{◌≡◌, ◌+◌, ◌<◌, ◌≤◌, ◌++◌, ◌∷◌, [], false, length, replicate, IfOk, IfErr, OnOk, vec_len};
-ghost use Rattle.grid_base.specs.declared.limits.TheConstants.{LAST_CALL, LONGEST_SCRIPT};
-ghost use Rattle.grid_script.specs.Orders.{IsOrder};
-ghost use Rattle.grid_script.specs.Refusals.{IsLinesRefusal};
-ghost use Rattle.grid_script.specs.Scripts.{AreLines, lines_text};
-ghost use Rattle.grid_script.specs.Tables.{may_follow, noted};
+ghost use Rattle.std.specs.Prelude.{◌≡◌, ◌<◌, ◌∷◌, length};
+ghost use Rattle.grid_script.specs.Faults.{script_fault_of};
+ghost use Rattle.grid_script.specs.Judging.{Says};
+ghost use Rattle.grid_script.specs.Lines.{Line, is_whole, lines_of, says_nothing};
 
-use crate::order::Order;
-use crate::orders::read_line;
+use crate::line_fault::LineFault;
 use crate::reason::Reason;
+use crate::rules::needs;
 use crate::script_fault::ScriptFault;
-use crate::step_line::StepLine;
-use grid_base::NoMemory;
-use grid_base::limits::LAST_CALL;
-use grid_event::Command;
-use sqlite_items::Items;
-use std::alloc::Global;
+use grid_base::limits::LONGEST_LINE;
+use memchr::memchr;
 
-/// The number of the first line behind the settings.
-const FIRST_LINE: u32 = 8;
-
-/// The lines that the text behind the settings spells.
-pub(crate) fn read_lines(alloc: Global, text: &[u8]) -> Result<Items<StepLine>, ScriptFault>
-    requires { length text.now ≤ LONGEST_SCRIPT }
-    ensures ok { IfOk result (λ lines. AreLines lines × (lines_text lines ≡ text.now)) }
-    ensures refused { IfErr result (λ fault. IsLinesRefusal text.now fault) }
-{
-    let mut made = empty_table(alloc)?;
-    let mut lines = Items::new(alloc);
-    let mut rest = text;
-    let mut number = FIRST_LINE;
-    'lines: while !rest.is_empty() {
-        let Some((order, behind)) = read_line(rest) else {
-            return Err(refusal());
-        };
-        if !may_follow(made.as_slice(), &order) {
-            return Err(refusal());
-        }
-        note(&mut made, &order);
-        push_line(
-            &mut lines,
-            StepLine {
-                line: number,
-                order,
-            },
-        )?;
-        number += 1;
-        rest = behind;
-    }
-    Ok(lines)
+/// The first line of a text: its bytes, whether a line feed ends it, and the text behind.
+#[derive(Clone, Copy, Debug)]
+pub(crate) struct Cut<'a> {
+    pub line: &'a [u8],
+    pub ended: bool,
+    pub rest: &'a [u8],
 }
 
-/// The refusal of every script that can't be run yet.
-pub(crate) fn refusal() -> ScriptFault
-    ensures { result ≡ ScriptFault.Refused 0 Reason.NotYet }
+/// Cuts off the first line of a text.
+#[tactic(auto, using(crate::proofs::Cutting::first_of, crate::proofs::Cutting::last_of))]
+pub(crate) fn first_line(text: &[u8]) -> Cut<'_>
+    requires { 0 < length text.now }
+    ensures cut { lines_of text.now ≡ record { bytes = result.line.now; ended = result.ended } ∷ lines_of result.rest.now }
+    ensures shorter { length result.rest.now < length text.now }
 {
-    ScriptFault::Refused {
-        line: 0,
-        reason: Reason::NotYet,
+    match memchr(b'\n', text) {
+        Some(at) => Cut {
+            line: &text[..at],
+            ended: true,
+            rest: &text[at + 1..],
+        },
+        None => Cut {
+            line: text,
+            ended: false,
+            rest: b"",
+        },
     }
 }
 
-/// A table in which no call is noted.
-fn empty_table(alloc: Global) -> Result<Vec<bool>, NoMemory>
-    ensures { IfOk result (λ made. made.items ≡ replicate (LAST_CALL + 1) false) }
+/// Refuses a line of more than 1,024 bytes, and one without a line feed at its end.
+#[tactic(auto, unfolding(crate::specs::Lines::is_whole))]
+pub(crate) fn is_whole(line: &[u8], ended: bool) -> Result<(), LineFault>
+    ensures { Says result (is_whole (record { bytes = line.now; ended = ended })) }
 {
-    let made = vec![in alloc; false; LAST_CALL as usize + 1]?;
-    Ok(made)
+    needs(line.len() <= LONGEST_LINE, Reason::OverLimit)?;
+    needs(ended, Reason::Syntax)
 }
 
-/// Whether the order may stand behind the lines whose calls the table notes.
-fn may_follow(made: &[bool], order: &Order) -> bool
-    requires whole { LAST_CALL < length made.now }
-    requires limits { IsOrder order.now }
-    ensures { result ≡ may_follow made.now order.now }
+/// Whether a line is empty or begins with a semicolon, and so says nothing.
+pub(crate) fn says_nothing(line: &[u8]) -> bool
+    ensures { result ≡ says_nothing line.now }
 {
-    match order {
-        Order::One(Command::Call { call, .. }) => !made[call.number() as usize],
-        Order::One(_) => true,
-        Order::Finish(call) => made[call.number() as usize],
+    match line.split_first() {
+        None => true,
+        Some((byte, _)) => *byte == b';',
     }
 }
 
-/// Notes the call that the order makes, if it makes one.
-fn note(made: &mut Vec<bool>, order: &Order)
-    requires whole { LAST_CALL < vec_len made.old }
-    requires limits { IsOrder order.now }
-    ensures { made.new.items ≡ noted made.old.items order.now }
+/// A fault of a line, with the line's number.
+pub(crate) fn on_line(line: u32, fault: LineFault) -> ScriptFault
+    ensures { result ≡ script_fault_of line fault }
 {
-    if let Order::One(Command::Call { call, .. }) = order {
-        made[call.number() as usize] = true;
+    match fault {
+        LineFault::Refused(reason) => ScriptFault::Refused { line, reason },
+        LineFault::NoMemory => ScriptFault::NoMemory,
     }
-}
-
-/// Puts a line behind the others.
-fn push_line(lines: &mut Items<StepLine>, line: StepLine) -> Result<(), NoMemory>
-    ensures { OnOk result (lines.new ≡ lines.old ++ line ∷ []) }
-{
-    lines.push(line)?;
-    Ok(())
 }
