@@ -35,7 +35,7 @@ use Rattle.grid_journal.specs.declared.event_fault.EventFault.{EventFault}
 use Rattle.grid_journal.specs.declared.event_fault.EventFault.TheVariants as faults
 use Rattle.grid_journal.specs.Kinds.{Kind, kind_word, kinds}
 use Rattle.grid_journal.specs.declared.kind.Kind.TheVariants as kind
-use Rattle.grid_journal.specs.Reading.{Reading, after, answer_event_in, asks, batch_in, behind, copy_in, counted_in, datum, entry, erase_in, event_of, fields_in, found, invoke_in, item, key, key_in, last_in, made, number_in, outcome_in, pairs, request_in, round_in, runs_in, stamped_entry, take_in, topology_in, until, whole_of, write_in}
+use Rattle.grid_journal.specs.Reading.{Reading, after, answer_event_in, asks, batch_in, behind, copy_in, counted_in, datum, erase_in, event_of, fields_in, found, invoke_in, item, key, key_in, last_in, made, number_in, outcome_in, pairs, plain_entry, request_in, round_in, runs_in, stamped_entry, take_in, topology_in, until, whole_of, write_in}
 use Rattle.grid_journal.specs.Words.{counted_text, entry_text, item_text, stamped_entry_text, until_text}
 use Rattle.grid_journal.proofs.ReadLaws.{Law, SoundBehind, Told, after_found, at_end, at_last, found_sound, made_behind, made_law, pair_law}
 use Rattle.grid_journal.proofs.NumberLaws.{end_is_calm, key_law, until_law}

@@ -22,7 +22,7 @@ use Rattle.topology_phase.specs.Phases.{same_phase}
 use Rattle.topology_phase.specs.declared.phase.Phase.{Phase}
 use Rattle.topology_phase.specs.declared.phase.Phase.TheVariants.{NoRebalance, ReadOld, ReadAll, ReadNew}
 use Rattle.grid_journal.specs.Fits.{all_fit, entry_fits, hash_fits, is_no_hash, is_u32, is_u8, item_fits, none_barred, owners_fit, pending_fits, stamped_entry_fits, topology_fits, until_fits}
-use Rattle.grid_journal.specs.Reading.{Reading, after, begins_number, behind, by_word, choice, counted_in, datum, entry, hash_in, item, key, made, more, no_bar, number, number_in, owners, pairs, pending_in, phase_in, stamped_entry, topology_in, topology_of, until}
+use Rattle.grid_journal.specs.Reading.{Reading, after, begins_number, behind, by_word, choice, counted_in, datum, hash_in, item, key, made, more, no_bar, number, number_in, owners, pairs, pending_in, phase_in, plain_entry, stamped_entry, topology_in, topology_of, until}
 use Rattle.grid_journal.specs.Topologies.{hash_text, owners_text, pending_text, phase_text, topology_text}
 use Rattle.grid_journal.specs.Words.{counted_text, each_behind, entry_text, item_text, stamped_entry_text, until_text}
 use Rattle.grid_journal.proofs.Joining.{joined_from_first}
@@ -38,8 +38,8 @@ pub datum_in_law : Law calm (λ d. 32 ∷ datum_text d) datum_fits (behind (32 �
 datum_in_law = blank_law datum_law
 
 -- an entry
-pub entry_law : Law calm entry_text entry_fits entry
-unfolding entry
+pub entry_law : Law calm entry_text entry_fits plain_entry
+unfolding plain_entry
 entry_law =
     made_law {fits = λ (p : List ℕ × Datum). is_key p.0 && datum_fits p.1} (λ (p : List ℕ × Datum). record { key = p.0; value = p.1 }) (λ (e : Entry). (e.key, e.value)) entry_text entry_fits (λ e. refl) (λ p. refl) (λ p. refl)
     (pair_law key_law datum_in_law (λ d y e. refl))
@@ -67,10 +67,10 @@ item_law = record {
   full = whole;
 }
   where
-    whole : (i : Item) (y : List ℕ) → item_fits i ≡ true → calm y ≡ true → choice (64 ∷ []) (made items.Entry entry) (made items.Datum datum) (item_text i ++ y) ≡ Some (i, y)
+    whole : (i : Item) (y : List ℕ) → item_fits i ≡ true → calm y ≡ true → choice (64 ∷ []) (made items.Entry plain_entry) (made items.Datum datum) (item_text i ++ y) ≡ Some (i, y)
     whole (items.Entry e) y keeps ended = ap (λ o. after o (λ e rest. Some (items.Entry e, rest))) (entry_law.full e y keeps ended)
     whole (items.Datum d) y keeps ended =
-        ap (λ o. by_word o (made items.Entry entry) (made items.Datum datum (datum_text d ++ y))) (other_missed 64 [] (datum_text d ++ y) (datum_other 64 refl refl refl d y keeps ended)).1
+        ap (λ o. by_word o (made items.Entry plain_entry) (made items.Datum datum (datum_text d ++ y))) (other_missed 64 [] (datum_text d ++ y) (datum_other 64 refl refl refl d y keeps ended)).1
         ∙ ap (λ o. after o (λ d rest. Some (items.Datum d, rest))) (datum_law.full d y keeps ended)
 
 narrow : {A : Type 0} {text : A → List ℕ} {fits : A → Bool} {r : List ℕ → Reading A} → Law calm text fits r → Law at_end text fits r
@@ -80,8 +80,8 @@ count_law : Law calm (λ n. 32 ∷ decimal n) (λ n. nat_le n 184467440737095516
 count_law = number_in_law 18446744073709551615 (omega arith) (omega arith)
 
 -- entries, entries with their deadlines, and items
-pub entries_law : Law at_end (λ l. 32 ∷ counted_text entry_text l) (all_fit entry_fits) (counted_in entry)
-entries_law = counted_law entry_text entry_fits entry (narrow entry_law) calm end_is_calm count_law
+pub entries_law : Law at_end (λ l. 32 ∷ counted_text entry_text l) (all_fit entry_fits) (counted_in plain_entry)
+entries_law = counted_law entry_text entry_fits plain_entry (narrow entry_law) calm end_is_calm count_law
 
 pub stamped_entries_law : Law at_end (λ l. 32 ∷ counted_text stamped_entry_text l) (all_fit stamped_entry_fits) (counted_in stamped_entry)
 stamped_entries_law = counted_law stamped_entry_text stamped_entry_fits stamped_entry stamped_entry_law calm end_is_calm count_law

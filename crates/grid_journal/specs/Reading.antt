@@ -101,8 +101,8 @@ abbrev pub until : List ℕ → Reading (Option ℕ)
 until = choice (codes "~") (made Some (number 4294967295)) (just None)
 
 -- a key and its value
-unfoldable pub entry : List ℕ → Reading Entry
-entry = made (λ p. record { key = p.0; value = p.1 }) (pairs key (behind (codes " ") datum))
+unfoldable pub plain_entry : List ℕ → Reading Entry
+plain_entry = made (λ p. record { key = p.0; value = p.1 }) (pairs key (behind (codes " ") datum))
 
 -- a key and its value with its deadline
 unfoldable pub stamped_entry : List ℕ → Reading StampedEntry
@@ -111,7 +111,7 @@ stamped_entry =
 
 -- an entry behind an at sign, or a value
 unfoldable pub item : List ℕ → Reading Item
-item = choice (codes "@") (made items.Entry entry) (made items.Datum datum)
+item = choice (codes "@") (made items.Entry plain_entry) (made items.Datum datum)
 
 -- so many further texts, each behind a blank, behind those that are read already
 abbrev pub times : {T : Type 0} → (List ℕ → Reading T) → ℕ → List T → List ℕ → Reading (List T)
@@ -262,12 +262,12 @@ round_in =
 -- a unit, its entries, and whether they are the last
 unfoldable pub batch_in : List ℕ → Reading (ℕ × Portion Entry)
 batch_in =
-    made (λ p. (p.0, record { entries = p.1.0; last = p.1.1 })) (pairs (number_in 4294967295) (pairs (counted_in entry) last_in))
+    made (λ p. (p.0, record { entries = p.1.0; last = p.1.1 })) (pairs (number_in 4294967295) (pairs (counted_in plain_entry) last_in))
 
 unfoldable pub take_in : List ℕ → Reading Taking
 take_in =
     made (λ p. record { unit = p.0; entries = p.1.0; given = p.1.1 })
-    (pairs (number_in 4294967295) (pairs (counted_in entry) (counted_in item)))
+    (pairs (number_in 4294967295) (pairs (counted_in plain_entry) (counted_in item)))
 
 unfoldable pub answer_event_in : List ℕ → Reading AnswerEvent
 answer_event_in = made (λ p. record { call = p.0; outcome = p.1 }) (pairs (number_in 4294967295) outcome_in)

@@ -98,11 +98,11 @@ pub(crate) trait Field: Drop {
 }
 
 impl Field for Entry {
-    ghost use Rattle.grid_journal.specs.Reading.{entry};
+    ghost use Rattle.grid_journal.specs.Reading.{plain_entry};
 
-    ghost reads = { entry };
+    ghost reads = { plain_entry };
 
-    #[tactic(auto, unfolding(crate::specs::Reading::entry))]
+    #[tactic(auto, unfolding(crate::specs::Reading::plain_entry))]
     fn read<'a>(alloc: Global, text: &'a [u8]) -> Result<(Entry, &'a [u8]), EventFault> {
         let Ok((key, rest)) = read_key(text) else {
             return Err(EventFault::BadEvent);

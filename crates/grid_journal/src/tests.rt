@@ -195,17 +195,13 @@ fn joining(alloc: Global) -> Result<Journal, Fail>
     put(alloc, &mut journal, "write 0 0 1#a 1")?;
     put(alloc, &mut journal, "write 0 0 1#b 2")?;
     journal.note_idle(12)?;
-    for text in [
-        "join 1",
-        "invoke 0 1 0 exact 4 2 count",
-        "round 1 1 1:0@0,2:1@0",
-        "begin 2 run",
-        "scan 2 2 1#a 1 1#b 2 more",
-        "announce 2 READ_OLD_WRITE_ALL 0;0 0;1",
-        "install 0 2",
-    ] {
-        put(alloc, &mut journal, text)?;
-    }
+    put(alloc, &mut journal, "join 1")?;
+    put(alloc, &mut journal, "invoke 0 1 0 exact 4 2 count")?;
+    put(alloc, &mut journal, "round 1 1 1:0@0,2:1@0")?;
+    put(alloc, &mut journal, "begin 2 run")?;
+    put(alloc, &mut journal, "scan 2 2 1#a 1 1#b 2 more")?;
+    put(alloc, &mut journal, "announce 2 READ_OLD_WRITE_ALL 0;0 0;1")?;
+    put(alloc, &mut journal, "install 0 2")?;
     journal.note_idle(20)?;
     journal.note_idle(21)?;
     Ok(journal)
