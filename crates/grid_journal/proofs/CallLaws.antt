@@ -1,7 +1,7 @@
 -- Readings of what calls ask for, of rounds and of outcomes are exact.
-use Rattle.std.proofs.Common.{◌≡◌, ℕ, zero, suc, ◌+◌, ◌<◌, ◌≤◌, Bool, true, false, not, ◌&&◌, ◌||◌, ◌==◌, cond, nat_le, nat_lt, List, [], ◌∷◌, ◌++◌, length, map, codes, Option, Some, None, Result, Ok, Err, refl, sym, ap, ◌∙◌, subst, arith, append_assoc, true≢false, eqb-true, length-append}
+use Rattle.std.proofs.Common.{◌≡◌, ℕ, suc, ◌≤◌, Bool, true, false, ◌&&◌, cond, nat_le, List, [], ◌∷◌, ◌++◌, length, map, codes, Option, Some, None, Result, Ok, Err, refl, sym, ap, ◌∙◌, subst, arith, append_assoc, true≢false, eqb-true, length-append}
 use Rattle.std.specs.List.{join_with_byte, list_all}
-use Rattle.std.specs.Fmt.{decimal, signed_decimal}
+use Rattle.std.specs.Fmt.{decimal}
 use Rattle.std.proofs.lemmas.Bool.Decides.{nat_tests}
 use Rattle.std.proofs.lemmas.List.{append-nil}
 use Rattle.std.proofs.lemmas.Option.{none-some, same_Some}
@@ -16,21 +16,20 @@ use Rattle.pipeline_expr.specs.declared.answer.Answer.{Answer}
 use Rattle.pipeline_expr.specs.declared.answer.Answer.TheVariants as answers
 use Rattle.pipeline_expr.specs.declared.pipeline.Pipeline.{Pipeline}
 use Rattle.pipeline_parse.specs.Answers.{Explains}
-use Rattle.pipeline_parse.specs.Grammar.{StopsAt, datum_fits, datum_text, fits, text_of}
+use Rattle.pipeline_parse.specs.Grammar.{StopsAt, datum_text, fits, text_of}
 use Rattle.pipeline_parse.specs.declared.parse_fault.ParseFault.{ParseFault}
 use Rattle.pipeline_parse.specs.declared.parse_fault.ParseFault.TheVariants.{Syntax}
 use Rattle.pipeline_parse.specs.Parsing.{pipeline_at}
-use Rattle.pipeline_parse.specs.Reading.{int_at}
 use Rattle.pipeline_parse.proofs.Exactness as exact
 use Rattle.pipeline_parse.proofs.Full.{calm}
 use Rattle.pipeline_parse.proofs.ParseLaws.{both_fit}
 use Rattle.pipeline_parse.proofs.WordLaws.{both_true}
 use Rattle.grid_journal.specs.Events.{answer_text, ask_text, asks_text, best_text, guarantee_text, last_text, outcome_text, request_text, runs_text}
-use Rattle.grid_journal.specs.Fits.{all_fit, answer_fits, ask_fits, best_fits, is_u16, is_u32, is_u64, is_u8, item_fits, outcome_fits, pipeline_fits, request_fits}
-use Rattle.grid_journal.specs.Reading.{Reading, after, answer_in, ask, asks, begins_number, behind, by_word, choice, counted_in, datum, found, guarantee_in, item, just, last_in, made, more, no_bar, nothing, number, number_in, outcome_in, pairs, pipeline, request_in, runs_in, whole_pipeline}
-use Rattle.grid_journal.specs.Words.{counted_text, each_behind, item_text}
+use Rattle.grid_journal.specs.Fits.{answer_fits, ask_fits, best_fits, is_u16, is_u32, is_u64, is_u8, outcome_fits, pipeline_fits, request_fits}
+use Rattle.grid_journal.specs.Reading.{Reading, after, answer_in, ask, asks, begins_number, behind, by_word, choice, datum, guarantee_in, just, last_in, made, more, no_bar, number, number_in, outcome_in, pairs, pipeline, request_in, runs_in, whole_pipeline}
+use Rattle.grid_journal.specs.Words.{each_behind}
 use Rattle.grid_journal.proofs.Joining.{joined_from_first}
-use Rattle.grid_journal.proofs.ReadLaws.{Law, More, Sound, SoundBehind, Told, after_found, as_law, at_end, at_last, behind_law, behind_sound, choice_sound, just_behind, last_is_end, made_behind, made_law, more_full, more_sound, none_in_way, nothing_sound, other_byte, other_missed, pair_law}
+use Rattle.grid_journal.proofs.ReadLaws.{Law, Sound, Told, after_found, at_end, at_last, behind_law, behind_sound, choice_sound, just_behind, made_behind, made_law, more_full, more_sound, none_in_way, nothing_sound, other_missed, pair_law}
 use Rattle.grid_journal.proofs.NumberLaws.{datum_law, datum_other, end_is_calm, end_is_other, int_law, number_begins, number_in_law, number_law}
 use Rattle.grid_journal.proofs.FieldLaws.{any, blank_law, items_law}
 
@@ -132,9 +131,6 @@ pipeline_none s fault at is h = go (nat_le (length s) 1024) (pipeline_at (suc (l
     go true (Ok q) e stops = let told = exact.found (suc (length s)) s q e in absurd (stops.other q told.1 told.0)
     go true (Err n) e stops = refl
     go false o e stops = refl
-
-last_is_calm : (y : List ℕ) → at_last y ≡ true → calm y ≡ true
-last_is_calm y e = end_is_calm y (last_is_end y e)
 
 -- what a call asks for
 pub request_law : Law at_last (λ r. 32 ∷ request_text r) request_fits request_in

@@ -1,5 +1,5 @@
 -- The reading of events is exact.
-use Rattle.std.proofs.Common.{◌≡◌, ℕ, Bool, true, false, ◌&&◌, List, [], ◌∷◌, ◌++◌, codes, Option, Some, None, Result, Ok, Err, IfOk, refl, sym, ap, ◌∙◌, true≢false}
+use Rattle.std.proofs.Common.{◌≡◌, ℕ, Bool, true, false, ◌&&◌, List, [], ◌∷◌, ◌++◌, Option, Some, None, Result, Ok, Err, IfOk, refl, sym, ap, ◌∙◌}
 use Rattle.std.specs.List.{list_all}
 use Rattle.std.specs.Fmt.{decimal}
 use Rattle.std.proofs.lemmas.List.{append-nil}
@@ -22,23 +22,21 @@ use Rattle.grid_event.specs.declared.request.Request.{Request}
 use Rattle.grid_event.specs.declared.store_events.CopyEvent.{CopyEvent}
 use Rattle.grid_event.specs.declared.store_events.EraseEvent.{EraseEvent}
 use Rattle.grid_event.specs.declared.store_events.WriteEvent.{WriteEvent}
-use Rattle.grid_event.specs.declared.unit_events.FetchEvent.{FetchEvent}
-use Rattle.grid_event.specs.declared.unit_events.ScanEvent.{ScanEvent}
 use Rattle.pipeline_parse.specs.Grammar.{datum_fits, datum_text}
 use Rattle.pipeline_parse.specs.Reading.{word_at}
 use Rattle.pipeline_parse.proofs.Full.{calm}
 use Rattle.pipeline_parse.proofs.WordLaws.{word_reads}
-use Rattle.grid_journal.specs.Events.{answer_text, asks_text, batch_text, copy_text, erase_text, event_text, invoke_text, last_text, outcome_text, request_text, round_text, runs_text, take_text, write_text}
-use Rattle.grid_journal.specs.Fits.{all_fit, ask_fits, entry_fits, event_fits, is_u16, is_u32, is_u8, item_fits, outcome_fits, request_fits, stamped_entry_fits, topology_fits, until_fits}
+use Rattle.grid_journal.specs.Events.{asks_text, batch_text, copy_text, erase_text, event_text, invoke_text, last_text, outcome_text, request_text, round_text, runs_text, take_text, write_text}
+use Rattle.grid_journal.specs.Fits.{all_fit, ask_fits, entry_fits, event_fits, is_u16, is_u32, is_u8, item_fits, outcome_fits, request_fits, stamped_entry_fits, until_fits}
 use Rattle.grid_journal.specs.Answers.{GivesOnly, GivesWhole}
 use Rattle.grid_journal.specs.declared.event_fault.EventFault.{EventFault}
 use Rattle.grid_journal.specs.declared.event_fault.EventFault.TheVariants as faults
 use Rattle.grid_journal.specs.Kinds.{Kind, kind_word, kinds}
 use Rattle.grid_journal.specs.declared.kind.Kind.TheVariants as kind
-use Rattle.grid_journal.specs.Reading.{Reading, after, answer_event_in, asks, batch_in, behind, copy_in, counted_in, datum, erase_in, event_of, fields_in, found, invoke_in, item, key, key_in, last_in, made, number_in, outcome_in, pairs, plain_entry, request_in, round_in, runs_in, stamped_entry, take_in, topology_in, until, whole_of, write_in}
+use Rattle.grid_journal.specs.Reading.{Reading, after, answer_event_in, batch_in, copy_in, erase_in, event_of, fields_in, found, invoke_in, made, number_in, pairs, round_in, runs_in, take_in, whole_of, write_in}
 use Rattle.grid_journal.specs.Words.{counted_text, entry_text, item_text, stamped_entry_text, until_text}
-use Rattle.grid_journal.proofs.ReadLaws.{Law, SoundBehind, Told, after_found, at_end, at_last, found_sound, made_behind, made_law, pair_law}
-use Rattle.grid_journal.proofs.NumberLaws.{end_is_calm, key_law, until_law}
+use Rattle.grid_journal.proofs.ReadLaws.{Law, SoundBehind, after_found, at_end, at_last, found_sound, made_behind, made_law, pair_law}
+use Rattle.grid_journal.proofs.NumberLaws.{key_law, until_law}
 use Rattle.grid_journal.proofs.FieldLaws.{any, blank_law, datum_in_law, entries_law, items_law, stamped_entries_law, tilde_is_calm, topology_in_law}
 use Rattle.grid_journal.proofs.CallLaws.{asks_law, last_law, outcome_law, request_law, runs_law, u16_law, u32_law, u8_law}
 

@@ -1,10 +1,9 @@
 -- Readings of entries, items, hashes and topologies are exact.
-use Rattle.std.proofs.Common.{◌≡◌, ℕ, zero, suc, ◌+◌, ◌<◌, ◌≤◌, Bool, true, false, not, ◌&&◌, ◌||◌, ◌==◌, cond, nat_le, nat_lt, List, [], ◌∷◌, ◌++◌, length, map, codes, Option, Some, None, refl, sym, ap, ◌∙◌, subst, arith, append_assoc, true≢false, eqb-true, eq-eqb}
+use Rattle.std.proofs.Common.{◌≡◌, ℕ, suc, ◌≤◌, Bool, true, false, ◌&&◌, ◌||◌, ◌==◌, cond, nat_le, nat_lt, List, [], ◌∷◌, ◌++◌, length, map, codes, Option, Some, None, refl, sym, ap, ◌∙◌, subst, arith, append_assoc, true≢false, eqb-true}
 use Rattle.std.specs.List.{join_with_byte, list_all}
 use Rattle.std.specs.Fmt.{decimal}
 use Rattle.std.specs.Option.{unwrap_or}
 use Rattle.std.proofs.lemmas.Bool.Decides.{nat_tests}
-use Rattle.std.proofs.lemmas.List.{append-nil}
 use Rattle.std.proofs.lemmas.Option.{none-some, same_Some}
 use Rattle.grid_base.specs.Key.{is_key}
 use Rattle.grid_base.specs.declared.datum.Datum.{Datum}
@@ -18,15 +17,14 @@ use Rattle.pipeline_parse.proofs.ParseLaws.{both_fit}
 use Rattle.pipeline_parse.proofs.WordLaws.{both_true}
 use Rattle.topology_phase.specs.Owners.{Hash, among}
 use Rattle.topology_phase.specs.Topologies.{Topology, has_few, makes_topology}
-use Rattle.topology_phase.specs.Phases.{same_phase}
 use Rattle.topology_phase.specs.declared.phase.Phase.{Phase}
 use Rattle.topology_phase.specs.declared.phase.Phase.TheVariants.{NoRebalance, ReadOld, ReadAll, ReadNew}
 use Rattle.grid_journal.specs.Fits.{all_fit, entry_fits, hash_fits, is_no_hash, is_u32, is_u8, item_fits, none_barred, owners_fit, pending_fits, stamped_entry_fits, topology_fits, until_fits}
-use Rattle.grid_journal.specs.Reading.{Reading, after, begins_number, behind, by_word, choice, counted_in, datum, hash_in, item, key, made, more, no_bar, number, number_in, owners, pairs, pending_in, phase_in, plain_entry, stamped_entry, topology_in, topology_of, until}
+use Rattle.grid_journal.specs.Reading.{Reading, after, begins_number, behind, by_word, choice, counted_in, datum, hash_in, item, made, more, no_bar, number, number_in, owners, pending_in, phase_in, plain_entry, stamped_entry, topology_in, topology_of}
 use Rattle.grid_journal.specs.Topologies.{hash_text, owners_text, pending_text, phase_text, topology_text}
 use Rattle.grid_journal.specs.Words.{counted_text, each_behind, entry_text, item_text, stamped_entry_text, until_text}
 use Rattle.grid_journal.proofs.Joining.{joined_from_first}
-use Rattle.grid_journal.proofs.ReadLaws.{Law, More, Sound, Told, after_found, as_law, at_end, behind_law, behind_sound, choice_sound, counted_law, just_behind, made_behind, made_law, more_full, more_sound, none_in_way, nothing_sound, other_byte, other_missed, pair_law}
+use Rattle.grid_journal.proofs.ReadLaws.{Law, Sound, Told, after_found, as_law, at_end, behind_law, behind_sound, choice_sound, counted_law, just_behind, made_behind, made_law, more_full, more_sound, none_in_way, nothing_sound, other_byte, other_missed, pair_law}
 use Rattle.grid_journal.proofs.NumberLaws.{datum_law, datum_other, end_is_calm, end_is_other, key_law, number_begins, number_in_law, number_law, until_law}
 
 -- a blank comes next behind a word that it begins

@@ -9,15 +9,15 @@ use Rattle.grid_base.specs.Key.{is_key, is_key_byte}
 use Rattle.grid_base.specs.declared.datum.Datum.{Datum}
 use Rattle.grid_base.specs.declared.datum.Datum.TheVariants.{Int, Text, Flag}
 use Rattle.pipeline_parse.specs.Grammar.{datum_fits, datum_text, int_fits}
-use Rattle.pipeline_parse.specs.Reading.{Read, before_bytes, begins_plain, datum_at, digits_at, int_at, is_digit, key_at, key_bytes_at, literal_at, number_at, plain_at, positive_at, with_sign}
+use Rattle.pipeline_parse.specs.Reading.{Read, before_bytes, begins_plain, datum_at, digits_at, int_at, is_digit, key_at, key_bytes_at, number_at, positive_at, with_sign}
 use Rattle.pipeline_parse.proofs.Full.{calm, plain_full}
 use Rattle.pipeline_parse.proofs.SharedLaws.{datum_full, datum_reads, key_reads}
 use Rattle.pipeline_parse.proofs.ValueLaws.{below_zero, int_reads, number_reads}
 use Rattle.pipeline_parse.proofs.WordLaws.{both_true}
-use Rattle.grid_journal.specs.Fits.{is_u32, until_fits}
-use Rattle.grid_journal.specs.Reading.{Reading, after, begins_number, behind, by_word, datum, found, just, key, made, number, number_in, until}
+use Rattle.grid_journal.specs.Fits.{until_fits}
+use Rattle.grid_journal.specs.Reading.{after, begins_number, by_word, datum, found, just, key, made, number, number_in, until}
 use Rattle.grid_journal.specs.Words.{until_text}
-use Rattle.grid_journal.proofs.ReadLaws.{Law, Told, at_end, behind_law, choice_sound, found_sound, just_behind, made_behind, made_law, other_byte, other_missed}
+use Rattle.grid_journal.proofs.ReadLaws.{Law, Told, at_end, behind_law, choice_sound, found_sound, just_behind, made_behind, other_byte, other_missed}
 
 not_true : (b : Bool) → not b ≡ true → b ≡ false
 not_true false e = refl

@@ -1,16 +1,15 @@
 -- Exact readings: what is read is a text that stands in front, and each text is read.
-use Rattle.std.proofs.Common.{◌≡◌, ℕ, zero, suc, ◌+◌, ◌<◌, ◌≤◌, Bool, true, false, not, ◌&&◌, ◌||◌, ◌==◌, cond, nat_le, nat_lt, List, [], ◌∷◌, ◌++◌, length, map, Option, Some, None, Result, Ok, Err, refl, sym, ap, ◌∙◌, subst, arith, append_assoc, true≢false, eqb-true}
+use Rattle.std.proofs.Common.{◌≡◌, ℕ, zero, suc, ◌≤◌, Bool, true, false, not, ◌&&◌, ◌==◌, cond, List, [], ◌∷◌, ◌++◌, length, map, Some, None, Result, Ok, Err, refl, sym, ap, ◌∙◌, subst, arith, append_assoc, true≢false, eqb-true}
 use Rattle.std.specs.Fmt.{decimal}
 use Rattle.std.specs.List.{list_all}
-use Rattle.std.proofs.lemmas.Bool.Decides.{nat_tests}
 use Rattle.std.proofs.lemmas.List.{append-nil}
 use Rattle.std.proofs.lemmas.Option.{none-some, same_Some}
-use Rattle.pipeline_parse.specs.Reading.{Read, is_digit, literal_at}
+use Rattle.pipeline_parse.specs.Reading.{Read, literal_at}
 use Rattle.pipeline_parse.proofs.Laws.{Exact, Tells}
 use Rattle.pipeline_parse.proofs.ParseLaws.{both_fit}
 use Rattle.pipeline_parse.proofs.WordLaws.{both_true, literal_own}
 use Rattle.grid_journal.specs.Fits.{all_fit, is_u64, none_barred}
-use Rattle.grid_journal.specs.Reading.{Reading, after, begins_number, behind, by_word, choice, counted_in, found, just, made, more, no_bar, nothing, number_in, pairs, times}
+use Rattle.grid_journal.specs.Reading.{Reading, after, behind, by_word, choice, counted_in, found, just, made, more, no_bar, nothing, number_in, pairs, times}
 use Rattle.grid_journal.specs.Words.{counted_text, each_behind}
 
 -- what was read stands in front and keeps its ranges
@@ -39,10 +38,6 @@ at_end (b ∷ s) = b == 32
 abbrev pub at_last : List ℕ → Bool
 at_last [] = true
 at_last (b ∷ s) = false
-
-pub last_is_end : (y : List ℕ) → at_last y ≡ true → at_end y ≡ true
-last_is_end [] e = refl
-last_is_end (b ∷ y) e = absurd (true≢false (sym e))
 
 -- a word that was read stands in front
 literal_found : (w s y : List ℕ) → literal_at w s ≡ Ok y → s ≡ w ++ y

@@ -1,5 +1,5 @@
 -- The steps of the readers' loops.
-use Rattle.std.proofs.Common.{◌≡◌, ℕ, zero, suc, ◌-◌, ◌<◌, List, [], ◌∷◌, ◌++◌, Result, Ok, Err, Option, Some, None, refl, sym, ap, ◌∙◌, arith}
+use Rattle.std.proofs.Common.{◌≡◌, ℕ, zero, suc, ◌-◌, ◌<◌, List, [], ◌∷◌, ◌++◌, Ok, Err, Some, None, sym, ap, ◌∙◌, arith}
 use Rattle.pipeline_parse.specs.Reading.{literal_at}
 use Rattle.topology_phase.specs.Owners.{Hash}
 use Rattle.grid_journal.specs.Answers.{Gives, GivesInto}

@@ -5,11 +5,9 @@ use Rattle.std.specs.List.{join_with_byte}
 use Rattle.grid_base.specs.Portion.{Portion}
 use Rattle.grid_base.specs.declared.datum.Datum.{Datum}
 use Rattle.grid_base.specs.declared.entry.Entry.{Entry}
-use Rattle.grid_base.specs.declared.stamped_entry.StampedEntry.{StampedEntry}
 use Rattle.delivery_mode.specs.declared.guarantee.Guarantee.{Guarantee}
 use Rattle.delivery_mode.specs.declared.guarantee.Guarantee.TheVariants as guarantees
 use Rattle.grid_event.specs.Taking.{Taking}
-use Rattle.grid_event.specs.declared.call_events.AnswerEvent.{AnswerEvent}
 use Rattle.grid_event.specs.declared.call_events.Ask.{Ask}
 use Rattle.grid_event.specs.declared.call_events.InvokeEvent.{InvokeEvent}
 use Rattle.grid_event.specs.declared.call_events.RoundEvent.{RoundEvent}
@@ -21,8 +19,6 @@ use Rattle.grid_event.specs.declared.request.Request.{Request}
 use Rattle.grid_event.specs.declared.store_events.CopyEvent.{CopyEvent}
 use Rattle.grid_event.specs.declared.store_events.EraseEvent.{EraseEvent}
 use Rattle.grid_event.specs.declared.store_events.WriteEvent.{WriteEvent}
-use Rattle.grid_event.specs.declared.unit_events.FetchEvent.{FetchEvent}
-use Rattle.grid_event.specs.declared.unit_events.ScanEvent.{ScanEvent}
 use Rattle.pipeline_expr.specs.declared.answer.Answer.{Answer}
 use Rattle.pipeline_expr.specs.declared.answer.Answer.TheVariants as answers
 use Rattle.pipeline_parse.specs.Grammar.{datum_text, text_of}

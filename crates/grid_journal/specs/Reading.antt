@@ -1,12 +1,11 @@
 -- Readers of events: what stands at the front of some bytes, and what is left behind it.
-use Rattle.std.specs.Prelude.{ℕ, zero, suc, Bool, true, false, ◌==◌, nat_le, Option, None, Some, Result, Ok, Err, List, [], ◌∷◌, ◌++◌, length, codes, if◌then◌else◌}
+use Rattle.std.specs.Prelude.{ℕ, zero, suc, Bool, true, false, nat_le, Option, None, Some, Result, Ok, Err, List, [], ◌∷◌, ◌++◌, length, codes, if◌then◌else◌}
 use Rattle.std.specs.Option.{unwrap_or}
 use Rattle.grid_base.specs.Portion.{Portion}
 use Rattle.grid_base.specs.declared.datum.Datum.{Datum}
 use Rattle.grid_base.specs.declared.entry.Entry.{Entry}
 use Rattle.grid_base.specs.declared.item.Item.{Item}
 use Rattle.grid_base.specs.declared.item.Item.TheVariants as items
-use Rattle.grid_base.specs.declared.stamped.Stamped.{Stamped}
 use Rattle.grid_base.specs.declared.stamped_entry.StampedEntry.{StampedEntry}
 use Rattle.delivery_mode.specs.declared.guarantee.Guarantee.{Guarantee}
 use Rattle.delivery_mode.specs.declared.guarantee.Guarantee.TheVariants as guarantees
@@ -23,8 +22,6 @@ use Rattle.grid_event.specs.declared.request.Request.{Request}
 use Rattle.grid_event.specs.declared.store_events.CopyEvent.{CopyEvent}
 use Rattle.grid_event.specs.declared.store_events.EraseEvent.{EraseEvent}
 use Rattle.grid_event.specs.declared.store_events.WriteEvent.{WriteEvent}
-use Rattle.grid_event.specs.declared.unit_events.FetchEvent.{FetchEvent}
-use Rattle.grid_event.specs.declared.unit_events.ScanEvent.{ScanEvent}
 use Rattle.pipeline_expr.specs.declared.answer.Answer.{Answer}
 use Rattle.pipeline_expr.specs.declared.answer.Answer.TheVariants as answers
 use Rattle.pipeline_expr.specs.declared.pipeline.Pipeline.{Pipeline}

@@ -5,7 +5,6 @@ use Rattle.topology_phase.specs.Owners.{Hash}
 use Rattle.topology_phase.specs.declared.phase.Phase.{Phase}
 use Rattle.topology_phase.specs.declared.phase.Phase.TheVariants.{NoRebalance, ReadOld, ReadAll, ReadNew}
 use Rattle.topology_phase.specs.Topologies.{Topology}
-use Rattle.grid_journal.specs.Words.{words}
 
 -- the owners of a segment, with a comma between each two
 abbrev pub owners_text : List ℕ → List ℕ

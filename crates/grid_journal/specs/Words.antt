@@ -1,5 +1,5 @@
 -- Words in a row: what stands between them, and the texts of values, entries, items and lists of them.
-use Rattle.std.specs.Prelude.{ℕ, Option, None, Some, List, [], ◌∷◌, ◌++◌, length, codes, decimal, map, zero, suc}
+use Rattle.std.specs.Prelude.{ℕ, Option, None, Some, List, [], ◌∷◌, ◌++◌, length, decimal, map, zero, suc}
 use Rattle.std.specs.List.{join_with_byte}
 use Rattle.grid_base.specs.declared.entry.Entry.{Entry}
 use Rattle.grid_base.specs.declared.item.Item.{Item}
