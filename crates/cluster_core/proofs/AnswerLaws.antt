@@ -12,10 +12,10 @@ use Rattle.cluster_core.specs.Evidence.{counts_for, read_for}
 use Rattle.cluster_core.specs.Served.{IsOne}
 use Rattle.cluster_core.proofs.OneNode.{segments_of-one}
 use Rattle.cluster_core.proofs.RoundLaws.{incomplete-one, left_of}
-use Rattle.cluster_model.specs.State.{Call, State, Unit, call_of}
-use Rattle.cluster_model.specs.Answers.{answered, can_answer, can_answer_call, end_of, evidence, is_that, outcome_of, same_outcome}
-use Rattle.cluster_model.specs.Calls.{can_go_on, is_complete}
-use Rattle.cluster_model.specs.Units.{read_by}
+use Rattle.fixed_topology.specs.State.{Call, State, Unit, call_of}
+use Rattle.fixed_topology.specs.Answers.{answered, can_answer, can_answer_call, end_of, evidence, is_that, outcome_of, same_outcome}
+use Rattle.fixed_topology.specs.Calls.{can_go_on, is_complete}
+use Rattle.fixed_topology.specs.Units.{read_by}
 
 -- the entries of the ended units, one after another, are as many as they have read
 length-evidence : (call : ℕ) (units : List Unit) → length (flat_map (λ (unit : Unit). unit.entries) (filter (counts_for call) units)) ≡ read_for call units

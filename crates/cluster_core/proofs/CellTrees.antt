@@ -10,8 +10,8 @@ use Rattle.std.specs.BTreeMap.{insert_entry}
 use Rattle.std.specs.FinMap as map_of
 use Rattle.std.specs.FinMap.Entries.{below_all, by_order, is_sorted, put}
 use Rattle.grid_base.specs.declared.stamped.Stamped.{Stamped}
-use Rattle.cluster_model.specs.Cells.{cell_cmp}
-use Rattle.cluster_model.proofs.CellOrder.{cells_total}
+use Rattle.fixed_topology.specs.Cells.{cell_cmp}
+use Rattle.fixed_topology.proofs.CellOrder.{cells_total}
 use Rattle.cluster_core.specs.Insides.{cell_of}
 use Rattle.cluster_core.proofs.Trees.{put-insert_entry, sorted_tree}
 

@@ -24,13 +24,13 @@ use Rattle.cluster_core.proofs.OneNode.{and_true, segments_of-one}
 use Rattle.cluster_core.proofs.RoundLaws.{asks_of-one, can_round-some}
 use Rattle.cluster_core.proofs.AnswerLaws.{can_answer-one, outcome_of-one}
 use Rattle.cluster_core.proofs.UnitLaws.{can_scan-some}
-use Rattle.cluster_model.specs.State.{Call, State, Unit, call_of, is_asked, unit_of}
-use Rattle.cluster_model.specs.Owners.{installed_id}
-use Rattle.cluster_model.specs.Same.{same_batch}
-use Rattle.cluster_model.specs.Answers.{can_answer, evidence}
-use Rattle.cluster_model.specs.Calls.{asks_of, can_go_on, can_round, has_open, is_complete, same_asks}
-use Rattle.cluster_model.specs.Units.{can_begin, can_begin_unit, can_read, can_scan, next_of, read_by}
-use Rattle.cluster_model.specs.Commands.{answer_event, answer_with, first_some, open_on, open_units, or_else, round_event, scan_event, unit_event}
+use Rattle.fixed_topology.specs.State.{Call, State, Unit, call_of, is_asked, unit_of}
+use Rattle.fixed_topology.specs.Owners.{installed_id}
+use Rattle.fixed_topology.specs.Same.{same_batch}
+use Rattle.fixed_topology.specs.Answers.{can_answer, evidence}
+use Rattle.fixed_topology.specs.Calls.{asks_of, can_go_on, can_round, has_open, is_complete, same_asks}
+use Rattle.fixed_topology.specs.Units.{can_begin, can_begin_unit, can_read, can_scan, next_of, read_by}
+use Rattle.fixed_topology.specs.Commands.{answer_event, answer_with, first_some, open_on, open_units, or_else, round_event, scan_event, unit_event}
 
 -- a number is itself
 same_number : (n : ℕ) → (n == n) ≡ true

@@ -18,10 +18,10 @@ use Rattle.cluster_core.specs.declared.cluster.Core.TheInside.{Inside}
 use Rattle.cluster_core.specs.Starts.{start_behind}
 use Rattle.cluster_core.proofs.CellTrees.{entries-cells, key_cmp}
 use Rattle.cluster_core.proofs.OneNode.{and_true}
-use Rattle.cluster_model.specs.Cells.{Cell, cell_cmp, part_of}
-use Rattle.cluster_model.specs.Next.{entries_behind, first_batch, is_behind, last_key, next_batch, plain_entry}
-use Rattle.cluster_model.specs.State.{Unit, call_of}
-use Rattle.cluster_model.specs.Units.{batch_of, next_of}
+use Rattle.fixed_topology.specs.Cells.{Cell, cell_cmp, part_of}
+use Rattle.fixed_topology.specs.Next.{entries_behind, first_batch, is_behind, last_key, next_batch, plain_entry}
+use Rattle.fixed_topology.specs.State.{Unit, call_of}
+use Rattle.fixed_topology.specs.Units.{batch_of, next_of}
 
 -- the first ones of two lists are the first list, where it is as long
 take_exactly : (read left : List Entry) (most : ℕ) → length read ≡ most → take most (read ++ left) ≡ read

@@ -10,11 +10,11 @@ use Rattle.grid_event.specs.declared.event.InvokeEvent.{InvokeEvent}
 use Rattle.grid_event.specs.declared.config.Config.{Config}
 use Rattle.grid_event.specs.declared.event.WriteEvent.{WriteEvent}
 use Rattle.cluster_core.specs.Served.{IsOne, is_plain, is_served}
-use Rattle.cluster_model.specs.State.{Call, State, call_of}
-use Rattle.cluster_model.specs.Owners.{first_owners, is_live, segment_of, segments_of, writers}
-use Rattle.cluster_model.specs.Calls.{can_go_on, can_invoke, invoked, is_request}
-use Rattle.cluster_model.specs.Writes.{can_reach, can_write, has_reader, is_deadline, is_of_kind, written, written_in}
-use Rattle.cluster_model.specs.Cells.{put_at}
+use Rattle.fixed_topology.specs.State.{Call, State, call_of}
+use Rattle.fixed_topology.specs.Owners.{first_owners, is_live, segment_of, segments_of, writers}
+use Rattle.fixed_topology.specs.Calls.{can_go_on, can_invoke, invoked, is_request}
+use Rattle.fixed_topology.specs.Writes.{can_reach, can_write, has_reader, is_deadline, is_of_kind, written, written_in}
+use Rattle.fixed_topology.specs.Cells.{put_at}
 use Rattle.std.specs.FinMap as map_of
 
 plain_is : (partition : Partition) → is_plain partition ≡ true → partition ≡ Plain

@@ -1,8 +1,8 @@
 -- How many entries units have read.
 use Rattle.std.proofs.Common.{◌≡◌, ℕ, zero, suc, ap, Some, ◌+◌, List, [], ◌∷◌, ◌++◌, length, arith}
 use Rattle.std.specs.Prelude.{slice_get, slice_set, unwrap_or}
-use Rattle.cluster_model.specs.State.{Unit}
-use Rattle.cluster_model.specs.Units.{read_by}
+use Rattle.fixed_topology.specs.State.{Unit}
+use Rattle.fixed_topology.specs.Units.{read_by}
 
 -- equal places hold equal units
 some_is : {a b : Unit} → Some a ≡ Some b → a ≡ b

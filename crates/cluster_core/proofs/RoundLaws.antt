@@ -9,10 +9,10 @@ use Rattle.cluster_core.specs.Rounds.{ask_here, is_due_here}
 use Rattle.cluster_core.specs.Served.{IsOne}
 use Rattle.cluster_core.specs.Views.{unit_here}
 use Rattle.cluster_core.proofs.OneNode.{can_go_on-one, first_owners-one, has_reader-one, is_live-one, segments_of-one}
-use Rattle.cluster_model.specs.Owners.{is_live}
-use Rattle.cluster_model.specs.Writes.{has_reader}
-use Rattle.cluster_model.specs.State.{Call, State, call_of}
-use Rattle.cluster_model.specs.Calls.{asks_of, can_go_on, can_round, has_open, incomplete, is_complete, is_due, is_next_round, rounded, same_ask, same_asks}
+use Rattle.fixed_topology.specs.Owners.{is_live}
+use Rattle.fixed_topology.specs.Writes.{has_reader}
+use Rattle.fixed_topology.specs.State.{Call, State, call_of}
+use Rattle.fixed_topology.specs.Calls.{asks_of, can_go_on, can_round, has_open, incomplete, is_complete, is_due, is_next_round, rounded, same_ask, same_asks}
 
 -- the one segment is incomplete, or none is
 pub incomplete-one : (st : State) → IsOne st.config → (number : ℕ) →

@@ -6,7 +6,7 @@ use Rattle.cluster_core.specs.Insides.{IsCore, state_of}
 use Rattle.cluster_core.specs.Served.{IsOne}
 use Rattle.cluster_core.specs.declared.cluster.Core.TheInside.{Inside}
 use Rattle.cluster_core.proofs.OneNode.{one_is}
-use Rattle.cluster_model.specs.State.{Call, State, Unit}
+use Rattle.fixed_topology.specs.State.{Call, State, Unit}
 
 -- the settings are of one node and one segment
 pub one_of : (fields : Inside) → IsCore fields → IsOne (state_of fields).config

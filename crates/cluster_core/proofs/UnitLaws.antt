@@ -8,10 +8,10 @@ use Rattle.grid_event.specs.declared.event.ScanEvent.{ScanEvent}
 use Rattle.cluster_core.specs.Served.{IsOne}
 use Rattle.cluster_core.specs.Views.{IsHere}
 use Rattle.cluster_core.proofs.OneNode.{first_owners-any}
-use Rattle.cluster_model.specs.State.{Ended, Running, State, Unit, call_of, is_asked, unit_of}
-use Rattle.cluster_model.specs.Same.{same_batch}
-use Rattle.cluster_model.specs.Calls.{can_go_on}
-use Rattle.cluster_model.specs.Units.{begun, can_begin, can_begin_unit, can_end, can_end_unit, can_read, can_scan, can_scan_unit, ended, next_of, read_by, scanned}
+use Rattle.fixed_topology.specs.State.{Ended, Running, State, Unit, call_of, is_asked, unit_of}
+use Rattle.fixed_topology.specs.Same.{same_batch}
+use Rattle.fixed_topology.specs.Calls.{can_go_on}
+use Rattle.fixed_topology.specs.Units.{begun, can_begin, can_begin_unit, can_end, can_end_unit, can_read, can_scan, can_scan_unit, ended, next_of, read_by, scanned}
 
 -- a unit of that number is there
 pub record IsThere (st : State) (number : ℕ) : Type 0 where

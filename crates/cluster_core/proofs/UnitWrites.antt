@@ -8,8 +8,8 @@ use Rattle.cluster_core.specs.Insides.{IsCore, state_of}
 use Rattle.cluster_core.specs.declared.cluster.Core.TheInside.{Inside}
 use Rattle.cluster_core.proofs.ReadLaws.{read_by-set}
 use Rattle.cluster_core.proofs.UnitLaws.{IsThere}
-use Rattle.cluster_model.specs.State.{State, Unit}
-use Rattle.cluster_model.specs.Units.{read_by}
+use Rattle.fixed_topology.specs.State.{State, Unit}
+use Rattle.fixed_topology.specs.Units.{read_by}
 
 -- the unit that is read at its place is the one that is there
 pub read_there : (st : State) (number : ℕ) (there : IsThere st number) (unit : Unit) → unit ≡ slice_index_or st.units (number - 1) unit → unit ≡ there.unit

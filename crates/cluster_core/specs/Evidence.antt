@@ -2,8 +2,8 @@
 use Rattle.std.specs.Prelude.{ℕ, ◌+◌, ◌==◌, ◌&&◌, Bool, if◌then◌else◌, List, [], ◌∷◌, length, slice_index_or, Option, None}
 use Rattle.grid_event.specs.declared.event.Event.{Event}
 use Rattle.cluster_core.specs.Views.{unit_here}
-use Rattle.cluster_model.specs.Commands.{unit_event}
-use Rattle.cluster_model.specs.State.{State, Unit, is_ended, is_open}
+use Rattle.fixed_topology.specs.Commands.{unit_event}
+use Rattle.fixed_topology.specs.State.{State, Unit, is_ended, is_open}
 
 -- the unit is one of the call on segment 0, and has ended
 abbrev pub counts_for : ℕ → Unit → Bool

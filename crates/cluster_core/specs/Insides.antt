@@ -9,9 +9,9 @@ use Rattle.grid_base.specs.declared.stamped.Stamped.{Stamped}
 use Rattle.grid_event.specs.Configs.{is_config}
 use Rattle.cluster_core.specs.declared.cluster.Core.TheInside.{Inside}
 use Rattle.cluster_core.specs.Served.{is_served}
-use Rattle.cluster_model.specs.Cells.{Cell, cell_cmp}
-use Rattle.cluster_model.specs.State.{State}
-use Rattle.cluster_model.specs.Units.{read_by}
+use Rattle.fixed_topology.specs.Cells.{Cell, cell_cmp}
+use Rattle.fixed_topology.specs.State.{State}
+use Rattle.fixed_topology.specs.Units.{read_by}
 
 -- the copy of an entry at node 0, in segment 0
 abbrev pub cell_of : List ℕ × Stamped → Cell × Stamped

@@ -1,8 +1,8 @@
 -- What the next round of a call is, where one node has the one segment.
 use Rattle.std.specs.Prelude.{ℕ, ◌+◌, Bool, not, nat_lt, ◌&&◌, length, is_none}
 use Rattle.grid_event.specs.declared.event.Ask.{Ask}
-use Rattle.cluster_model.specs.State.{Call, State}
-use Rattle.cluster_model.specs.Calls.{has_open, is_complete}
+use Rattle.fixed_topology.specs.State.{Call, State}
+use Rattle.fixed_topology.specs.Calls.{has_open, is_complete}
 
 -- node 0 is asked for segment 0 by the following unit
 abbrev pub ask_here : State → Ask

@@ -2,7 +2,7 @@
 use Rattle.std.specs.Prelude.{◌≡◌, ℕ, [], false}
 use Rattle.cluster_core.specs.declared.stage.Stage.{Stage}
 use Rattle.cluster_core.specs.declared.stage.Stage.TheVariants as stages
-use Rattle.cluster_model.specs.State as states
+use Rattle.fixed_topology.specs.State as states
 
 -- the stage of a unit
 abbrev pub stage_of : Stage → states.Stage

@@ -14,7 +14,7 @@ pub struct Call {
 }
 
 impl Model for Call {
-    ghost use Rattle.cluster_model.specs.State as states;
+    ghost use Rattle.fixed_topology.specs.State as states;
 
     ghost Value = { states.Call };
 

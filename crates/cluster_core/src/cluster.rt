@@ -5,10 +5,10 @@ ghost use Rattle.std.specs.Option.{option_copied};
 ghost use Rattle.std.specs.List.{list_any};
 ghost use Rattle.grid_event.specs.Configs.{is_config, is_up_to};
 ghost use Rattle.cluster_core.specs.Served.{IsOne, is_served};
-ghost use Rattle.cluster_model.specs.State.{call_of, start, unit_of};
-ghost use Rattle.cluster_model.specs.State as states;
-ghost use Rattle.cluster_model.specs.Calls.{can_go_on, can_invoke, has_open, invoked, is_complete, is_request};
-ghost use Rattle.cluster_model.specs.Writes.{can_write, is_deadline, is_of_kind, written};
+ghost use Rattle.fixed_topology.specs.State.{call_of, start, unit_of};
+ghost use Rattle.fixed_topology.specs.State as states;
+ghost use Rattle.fixed_topology.specs.Calls.{can_go_on, can_invoke, has_open, invoked, is_complete, is_request};
+ghost use Rattle.fixed_topology.specs.Writes.{can_write, is_deadline, is_of_kind, written};
 
 mod answers;
 mod apply;
@@ -40,8 +40,8 @@ impl Model for Core {
     ghost use Rattle.std.specs.FinMap as map_of;
     ghost use Rattle.std.specs.Coded.{codes, coded_ℕ};
     ghost use Rattle.std.specs.Ordering.{nat_cmp};
-    ghost use Rattle.cluster_model.specs.Cells.{cell_cmp};
-    ghost use Rattle.cluster_model.specs.State.{State};
+    ghost use Rattle.fixed_topology.specs.Cells.{cell_cmp};
+    ghost use Rattle.fixed_topology.specs.State.{State};
 
     ghost Value = { State };
 

@@ -3,8 +3,8 @@
 ghost use Rattle.std.specs.Prelude.{◌≡◌};
 ghost use Rattle.std.specs.Cmp.Lexicographic.{pointwise};
 ghost use Rattle.grid_base.specs.Datum.{same_datum, same_entry};
-ghost use Rattle.cluster_model.specs.Same.{same_batch};
-ghost use Rattle.cluster_model.specs.Writes.{is_of_kind};
+ghost use Rattle.fixed_topology.specs.Same.{same_batch};
+ghost use Rattle.fixed_topology.specs.Writes.{is_of_kind};
 
 use grid_base::{Batch, Datum, Entry};
 use grid_event::ValueKind;

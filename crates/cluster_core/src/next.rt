@@ -2,7 +2,7 @@
 
 ghost use Rattle.std.specs.Prelude.{◌≡◌, IfOk};
 ghost use Rattle.cluster_core.specs.Starts.{start_behind};
-ghost use Rattle.cluster_model.specs.Next.{first_batch, next_batch};
+ghost use Rattle.fixed_topology.specs.Next.{first_batch, next_batch};
 
 use grid_base::{Batch, Entries, Entry, Key, NoMemory, Stamped};
 use std::alloc::Global;

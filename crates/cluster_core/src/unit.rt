@@ -1,8 +1,8 @@
 //! A unit as the core keeps it.
 
 ghost use Rattle.std.specs.Prelude.{◌≡◌, ◌++◌, OnErr, OnOk};
-ghost use Rattle.cluster_model.specs.Next.{last_key};
-ghost use Rattle.cluster_model.specs.State as states;
+ghost use Rattle.fixed_topology.specs.Next.{last_key};
+ghost use Rattle.fixed_topology.specs.State as states;
 
 use crate::stage::Stage;
 use grid_base::{CallId, Entries, Key, NoMemory};
@@ -20,7 +20,7 @@ pub struct Unit {
 }
 
 impl Model for Unit {
-    ghost use Rattle.cluster_model.specs.State as states;
+    ghost use Rattle.fixed_topology.specs.State as states;
 
     ghost Value = { states.Unit };
 

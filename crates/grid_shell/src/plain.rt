@@ -2,7 +2,7 @@
 
 ghost use Rattle.std.specs.Prelude.{◌≡◌, ◌≤◌, ◌↔◌, ◌⊎◌, ℕ, List, true, Some, IsSome};
 ghost use Rattle.std.specs.Io.KnownBytes.{Appends, Consumes};
-ghost use Rattle.cluster_model.specs.Step.{is_run};
+ghost use Rattle.fixed_topology.specs.Step.{is_run};
 ghost use Rattle.grid_event.specs.Histories.{blank};
 ghost use Rattle.grid_io.specs.Count.{Rose};
 ghost use Rattle.grid_io.specs.Written.{AppendsPart, Wrote};

@@ -2,7 +2,7 @@
 
 ghost use Rattle.std.specs.Prelude.{◌≡◌, true, OnOk, Some};
 ghost use Rattle.grid_event.specs.Histories.{blank};
-ghost use Rattle.cluster_model.specs.Step.{is_run};
+ghost use Rattle.fixed_topology.specs.Step.{is_run};
 ghost use Rattle.step_run.specs.StepRuns.{run_of};
 ghost use Rattle.step_run.specs.Outcomes.{LeavesRun};
 

@@ -4,8 +4,8 @@ ghost use Rattle.std.specs.Prelude.{◌≡◌, ◌+◌, ◌≤◌, true, length,
 ghost use Rattle.grid_event.specs.declared.outcome.Answer.TheVariants as answers;
 ghost use Rattle.grid_event.specs.declared.outcome.Outcome.TheVariants as outcomes;
 ghost use Rattle.cluster_core.specs.Evidence.{counts_for, read_for};
-ghost use Rattle.cluster_model.specs.Answers.{answered, can_answer, evidence, same_outcome};
-ghost use Rattle.cluster_model.specs.Units.{read_by};
+ghost use Rattle.fixed_topology.specs.Answers.{answered, can_answer, evidence, same_outcome};
+ghost use Rattle.fixed_topology.specs.Units.{read_by};
 
 use crate::cluster::Core;
 use crate::unit::Unit;

@@ -1,7 +1,7 @@
 //! The step that an event makes.
 
 ghost use Rattle.std.specs.Prelude.{◌≡◌, ◌↔◌, true, None, Some, IfOk, IsErrOf, OnErr, OnOk};
-ghost use Rattle.cluster_model.specs.Step.{after, allowed, changed};
+ghost use Rattle.fixed_topology.specs.Step.{after, allowed, changed};
 
 use crate::apply_fault::ApplyFault;
 use crate::cluster::Core;

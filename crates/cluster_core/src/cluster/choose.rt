@@ -7,8 +7,8 @@ ghost use Rattle.grid_event.specs.declared.event.Event.TheVariants as events;
 ghost use Rattle.cluster_core.specs.Rounds.{ask_here};
 ghost use Rattle.cluster_core.specs.Evidence.{event_at, is_open_for};
 ghost use Rattle.cluster_core.specs.Views.{unit_here};
-ghost use Rattle.cluster_model.specs.State.{call_of, unit_of};
-ghost use Rattle.cluster_model.specs.Commands.{answer_event, chosen, first_some, if_allowed, open_units, round_event, scan_event, unit_event};
+ghost use Rattle.fixed_topology.specs.State.{call_of, unit_of};
+ghost use Rattle.fixed_topology.specs.Commands.{answer_event, chosen, first_some, if_allowed, open_units, round_event, scan_event, unit_event};
 
 use crate::cluster::Core;
 use grid_base::{CallId, NoMemory, NodeId, SegmentId, TopologyId, UnitId};

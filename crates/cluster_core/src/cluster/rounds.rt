@@ -3,8 +3,8 @@
 ghost use Rattle.std.specs.Prelude.{◌≡◌, ◌+◌, ◌&&◌, ◌==◌, [], ◌∷◌, true, not, length, nat_lt, is_none, OnErr, OnOk};
 ghost use Rattle.cluster_core.specs.Served.{IsOne};
 ghost use Rattle.cluster_core.specs.Rounds.{ask_here, is_due_here};
-ghost use Rattle.cluster_model.specs.State.{call_of};
-ghost use Rattle.cluster_model.specs.Calls.{can_round, rounded, same_ask, same_asks};
+ghost use Rattle.fixed_topology.specs.State.{call_of};
+ghost use Rattle.fixed_topology.specs.Calls.{can_round, rounded, same_ask, same_asks};
 
 use crate::call::Call;
 use crate::cluster::Core;

@@ -1,8 +1,8 @@
 //! What becomes of a unit: it begins, it reads, it ends.
 
 ghost use Rattle.std.specs.Prelude.{◌≡◌, ◌+◌, true, Some, nat_le, IfOk, OnErr, OnOk};
-ghost use Rattle.cluster_model.specs.State.{call_of};
-ghost use Rattle.cluster_model.specs.Units.{batch_of, begun, can_begin, can_end, can_end_unit, can_read, can_scan, ended, next_of, read_by, scanned};
+ghost use Rattle.fixed_topology.specs.State.{call_of};
+ghost use Rattle.fixed_topology.specs.Units.{batch_of, begun, can_begin, can_end, can_end_unit, can_read, can_scan, ended, next_of, read_by, scanned};
 
 use crate::cluster::Core;
 use crate::matches::same_batch;

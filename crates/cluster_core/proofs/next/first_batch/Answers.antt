@@ -2,7 +2,7 @@
 use Rattle.std.proofs.Common.{◌++◌, ap, sym, ◌∙◌, map}
 use Rattle.cluster_core.proofs.NextLaws.{first_batch-cut}
 use Rattle.cluster_core.proofs.next.first_batch.Goals as goal
-use Rattle.cluster_model.specs.Next.{plain_entry}
+use Rattle.fixed_topology.specs.Next.{plain_entry}
 
 pub returns-then-len-most : goal.returns-then-len-most
 returns-then-len-most c =

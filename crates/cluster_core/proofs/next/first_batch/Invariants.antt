@@ -1,6 +1,6 @@
 -- What was read and what is left are all that there was, and no more were read than asked for.
 use Rattle.std.proofs.Common.{◌≡◌, ◌≤◌, ◌++◌, length, map}
-use Rattle.cluster_model.specs.Next.{plain_entry}
+use Rattle.fixed_topology.specs.Next.{plain_entry}
 use Rattle.cluster_core.proofs.next.first_batch.Given as goal
 
 abbrev pub invariant-loop-key : goal.invariant-loop-key

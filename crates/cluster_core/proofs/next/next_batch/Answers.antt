@@ -6,7 +6,7 @@ use Rattle.grid_base.specs.declared.stamped.Stamped.{Stamped}
 use Rattle.cluster_core.proofs.CellTrees.{key_cmp}
 use Rattle.cluster_core.proofs.NextLaws.{between-behind}
 use Rattle.cluster_core.proofs.next.next_batch.Goals as goal
-use Rattle.cluster_model.specs.Next.{first_batch, next_batch}
+use Rattle.fixed_topology.specs.Next.{first_batch, next_batch}
 
 pub returns : goal.returns
 unfolding next_batch

@@ -6,8 +6,8 @@ use Rattle.cluster_core.specs.Insides.{state_of}
 use Rattle.cluster_core.proofs.AnswerLaws.{answered-there, no_answer}
 use Rattle.cluster_core.proofs.Trees.{insert-tree}
 use Rattle.cluster_core.proofs.cluster.Core.answer.Goals as goal
-use Rattle.cluster_model.specs.State.{State, call_of}
-use Rattle.cluster_model.specs.Answers.{answered}
+use Rattle.fixed_topology.specs.State.{State, call_of}
+use Rattle.fixed_topology.specs.Answers.{answered}
 
 pub unreachable-requires : goal.unreachable-requires
 unreachable-requires c = no_answer c.args.self.now c.args.answer.now c.in-None.ensures.call c.requires

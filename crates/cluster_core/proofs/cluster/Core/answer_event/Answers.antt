@@ -7,7 +7,7 @@ use Rattle.grid_event.specs.declared.outcome.Outcome.TheVariants.{Value}
 use Rattle.cluster_core.proofs.ChoiceLaws.{answer_event-one}
 use Rattle.cluster_core.proofs.Seen.{one_seen}
 use Rattle.cluster_core.proofs.cluster.Core.answer_event.Goals as goal
-use Rattle.cluster_model.specs.Calls.{is_complete}
+use Rattle.fixed_topology.specs.Calls.{is_complete}
 
 pub returns-then-not-can_go_on : goal.returns-then-not-can_go_on
 returns-then-not-can_go_on c =

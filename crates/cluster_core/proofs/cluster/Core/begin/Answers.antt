@@ -4,8 +4,8 @@ use Rattle.cluster_core.specs.Insides.{state_of}
 use Rattle.cluster_core.proofs.UnitLaws.{begin_there, begun-there}
 use Rattle.cluster_core.proofs.UnitWrites.{core_with, read_there, state_with}
 use Rattle.cluster_core.proofs.cluster.Core.begin.Goals as goal
-use Rattle.cluster_model.specs.State.{Running, State, Unit}
-use Rattle.cluster_model.specs.Units.{begun, can_begin}
+use Rattle.fixed_topology.specs.State.{Running, State, Unit}
+use Rattle.fixed_topology.specs.Units.{begun, can_begin}
 
 pub overflow_sub-place : goal.overflow_sub-place
 overflow_sub-place c = let there = begin_there c.args.self.now c.args.number true c.requires in omega (arith, there.positive, c.number.ensures)

@@ -4,7 +4,7 @@ use Rattle.std.specs.Ordering.{nat_cmp}
 use Rattle.cluster_core.proofs.Seen.{one_seen}
 use Rattle.cluster_core.proofs.Trees.{get-tree}
 use Rattle.cluster_core.proofs.cluster.Core.call.Goals as goal
-use Rattle.cluster_model.specs.State.{State, call_of}
+use Rattle.fixed_topology.specs.State.{State, call_of}
 
 pub returns : goal.returns
 returns c = record {

@@ -6,9 +6,9 @@ use Rattle.cluster_core.proofs.AnswerLaws.{can_answer-one}
 use Rattle.cluster_core.proofs.OneNode.{going, stopped}
 use Rattle.cluster_core.proofs.Seen.{one_seen}
 use Rattle.cluster_core.proofs.cluster.Core.can_answer.Goals as goal
-use Rattle.cluster_model.specs.State.{call_of}
-use Rattle.cluster_model.specs.Answers.{evidence, same_outcome}
-use Rattle.cluster_model.specs.Calls.{can_go_on, is_complete}
+use Rattle.fixed_topology.specs.State.{call_of}
+use Rattle.fixed_topology.specs.Answers.{evidence, same_outcome}
+use Rattle.fixed_topology.specs.Calls.{can_go_on, is_complete}
 
 pub returns-then-not-can_go_on : goal.returns-then-not-can_go_on
 returns-then-not-can_go_on c =

@@ -3,8 +3,8 @@ use Rattle.std.proofs.Common.{ap, sym, ◌∙◌, ◌&&◌}
 use Rattle.cluster_core.proofs.OneNode.{going, stopped}
 use Rattle.cluster_core.proofs.UnitLaws.{can_begin-none, can_begin-some}
 use Rattle.cluster_core.proofs.cluster.Core.can_begin.Goals as goal
-use Rattle.cluster_model.specs.Calls.{can_go_on}
-use Rattle.cluster_model.specs.State.{call_of, is_asked}
+use Rattle.fixed_topology.specs.Calls.{can_go_on}
+use Rattle.fixed_topology.specs.State.{call_of, is_asked}
 
 pub returns-in-None : goal.returns-in-None
 returns-in-None c = sym (can_begin-none c.args.self.now c.args.number c.args.runs c.in-None.ensures.unit)

@@ -2,7 +2,7 @@
 use Rattle.std.proofs.Common.{ap, sym, ◌∙◌}
 use Rattle.cluster_core.proofs.OneNode.{can_go_on-one}
 use Rattle.cluster_core.proofs.cluster.Core.can_go_on.Goals as goal
-use Rattle.cluster_model.specs.Calls.{can_go_on}
+use Rattle.fixed_topology.specs.Calls.{can_go_on}
 
 pub returns-in-Some : goal.returns-in-Some
 returns-in-Some c =

@@ -3,7 +3,7 @@ use Rattle.std.proofs.Common.{ap, sym, ◌∙◌, ◌&&◌, ◌==◌, [], ◌∷
 use Rattle.cluster_core.specs.Rounds.{ask_here}
 use Rattle.cluster_core.proofs.RoundLaws.{can_round-none, can_round-some}
 use Rattle.cluster_core.proofs.cluster.Core.can_round.Goals as goal
-use Rattle.cluster_model.specs.Calls.{same_asks}
+use Rattle.fixed_topology.specs.Calls.{same_asks}
 
 pub returns-in-None : goal.returns-in-None
 returns-in-None c = sym (can_round-none c.args.self.now c.args.round.now c.in-None.ensures.call)

@@ -6,8 +6,8 @@ use Rattle.grid_base.specs.declared.entry.Entry.{Entry}
 use Rattle.cluster_core.proofs.OneNode.{going, stopped}
 use Rattle.cluster_core.proofs.UnitLaws.{can_scan-none, can_scan-some}
 use Rattle.cluster_core.proofs.cluster.Core.can_scan.Goals as goal
-use Rattle.cluster_model.specs.Same.{same_batch}
-use Rattle.cluster_model.specs.Units.{can_read, next_of, read_by}
+use Rattle.fixed_topology.specs.Same.{same_batch}
+use Rattle.fixed_topology.specs.Units.{can_read, next_of, read_by}
 
 pub returns-in-None : goal.returns-in-None
 returns-in-None c = sym (can_scan-none c.args.self.now c.args.scan.now c.in-None.ensures.unit)

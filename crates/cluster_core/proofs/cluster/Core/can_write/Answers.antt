@@ -4,8 +4,8 @@ use Rattle.cluster_core.specs.Insides.{state_of}
 use Rattle.cluster_core.proofs.OneNode.{can_write-one}
 use Rattle.cluster_core.proofs.Seen.{one_of}
 use Rattle.cluster_core.proofs.cluster.Core.can_write.Goals as goal
-use Rattle.cluster_model.specs.State.{State}
-use Rattle.cluster_model.specs.Writes.{can_write}
+use Rattle.fixed_topology.specs.State.{State}
+use Rattle.fixed_topology.specs.Writes.{can_write}
 
 pub returns : goal.returns
 returns c =

@@ -5,8 +5,8 @@ use Rattle.cluster_core.specs.Evidence.{read_for}
 use Rattle.cluster_core.proofs.AnswerLaws.{evidence-one}
 use Rattle.cluster_core.proofs.Seen.{one_of}
 use Rattle.cluster_core.proofs.cluster.Core.count.Goals as goal
-use Rattle.cluster_model.specs.State.{State}
-use Rattle.cluster_model.specs.Answers.{evidence}
+use Rattle.fixed_topology.specs.State.{State}
+use Rattle.fixed_topology.specs.Answers.{evidence}
 
 pub returns : goal.returns
 returns c =

@@ -4,8 +4,8 @@ use Rattle.cluster_core.specs.Insides.{state_of}
 use Rattle.cluster_core.proofs.UnitLaws.{end_there, ended-there}
 use Rattle.cluster_core.proofs.UnitWrites.{core_with, read_there, state_with}
 use Rattle.cluster_core.proofs.cluster.Core.end.Goals as goal
-use Rattle.cluster_model.specs.State.{Ended, State, Unit}
-use Rattle.cluster_model.specs.Units.{ended, can_end}
+use Rattle.fixed_topology.specs.State.{Ended, State, Unit}
+use Rattle.fixed_topology.specs.Units.{ended, can_end}
 
 pub overflow_sub-place : goal.overflow_sub-place
 overflow_sub-place c = let there = end_there c.args.self.now c.args.number c.requires in omega (arith, there.positive, c.number.ensures)

@@ -7,8 +7,8 @@ use Rattle.cluster_core.proofs.OneNode.{invoked-one}
 use Rattle.cluster_core.proofs.Seen.{one_of}
 use Rattle.cluster_core.proofs.Trees.{insert-tree}
 use Rattle.cluster_core.proofs.cluster.Core.invoke.Goals as goal
-use Rattle.cluster_model.specs.State.{State}
-use Rattle.cluster_model.specs.Calls.{can_invoke, invoked}
+use Rattle.fixed_topology.specs.State.{State}
+use Rattle.fixed_topology.specs.Calls.{can_invoke, invoked}
 
 pub returns-clause-ok : goal.returns-clause-ok
 returns-clause-ok c =

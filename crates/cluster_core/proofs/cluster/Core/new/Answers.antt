@@ -1,7 +1,7 @@
 -- No entry, no unit and no call is there.
 use Rattle.std.proofs.Common.{refl}
 use Rattle.std.specs.Ordering.{nat_cmp}
-use Rattle.cluster_model.specs.Cells.{cell_cmp}
+use Rattle.fixed_topology.specs.Cells.{cell_cmp}
 use Rattle.cluster_core.proofs.Trees.{empty-tree}
 use Rattle.cluster_core.proofs.cluster.Core.new.Goals as goal
 

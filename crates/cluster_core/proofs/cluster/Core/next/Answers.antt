@@ -4,9 +4,9 @@ use Rattle.grid_base.specs.Portion.{Portion}
 use Rattle.grid_base.specs.declared.entry.Entry.{Entry}
 use Rattle.cluster_core.proofs.NextLaws.{next_of-here}
 use Rattle.cluster_core.proofs.cluster.Core.next.Goals as goal
-use Rattle.cluster_model.specs.State.{State, call_of}
-use Rattle.cluster_model.specs.Next.{last_key, next_batch}
-use Rattle.cluster_model.specs.Units.{batch_of, next_of}
+use Rattle.fixed_topology.specs.State.{State, call_of}
+use Rattle.fixed_topology.specs.Next.{last_key, next_batch}
+use Rattle.fixed_topology.specs.Units.{batch_of, next_of}
 
 pub returns : goal.returns
 returns c =

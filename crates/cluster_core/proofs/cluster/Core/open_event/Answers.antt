@@ -5,8 +5,8 @@ use Rattle.grid_event.specs.declared.event.Event.{Event}
 use Rattle.cluster_core.proofs.ChoiceLaws.{found_first, none_first, open_on-end, open_on-place, open_units-one}
 use Rattle.cluster_core.proofs.Seen.{one_seen}
 use Rattle.cluster_core.proofs.cluster.Core.open_event.Goals as goal
-use Rattle.cluster_model.specs.Commands.{first_some, open_on, or_else, unit_event}
-use Rattle.cluster_model.specs.State.{State}
+use Rattle.fixed_topology.specs.Commands.{first_some, open_on, or_else, unit_event}
+use Rattle.fixed_topology.specs.State.{State}
 
 pub loop-place-init : goal.loop-place-init
 loop-place-init c =

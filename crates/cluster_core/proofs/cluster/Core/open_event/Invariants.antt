@@ -1,7 +1,7 @@
 -- No open unit before the place has an event.
 use Rattle.std.proofs.Common.{◌≡◌, ◌+◌, drop}
 use Rattle.cluster_core.proofs.cluster.Core.open_event.Given as goal
-use Rattle.cluster_model.specs.Commands.{first_some, open_on, open_units, unit_event}
+use Rattle.fixed_topology.specs.Commands.{first_some, open_on, open_units, unit_event}
 
 abbrev pub invariant-loop-place : goal.invariant-loop-place
 invariant-loop-place l =

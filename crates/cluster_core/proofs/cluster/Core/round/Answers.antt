@@ -8,9 +8,9 @@ use Rattle.cluster_core.proofs.RoundLaws.{may_round, no_round, rounded-one}
 use Rattle.cluster_core.proofs.Seen.{one_of, same_units_calls}
 use Rattle.cluster_core.proofs.Trees.{insert-tree}
 use Rattle.cluster_core.proofs.cluster.Core.round.Goals as goal
-use Rattle.cluster_model.specs.State.{State, Unit, call_of}
-use Rattle.cluster_model.specs.Calls.{can_round, rounded}
-use Rattle.cluster_model.specs.Units.{read_by}
+use Rattle.fixed_topology.specs.State.{State, Unit, call_of}
+use Rattle.fixed_topology.specs.Calls.{can_round, rounded}
+use Rattle.fixed_topology.specs.Units.{read_by}
 
 pub unreachable-requires : goal.unreachable-requires
 unreachable-requires c = no_round c.args.self.now c.args.round.now c.in-None.ensures.call c.requires

@@ -6,8 +6,8 @@ use Rattle.cluster_core.specs.Insides.{state_of}
 use Rattle.cluster_core.proofs.UnitLaws.{scan_room, scan_there, scanned-there}
 use Rattle.cluster_core.proofs.UnitWrites.{core_with, read_there, state_with}
 use Rattle.cluster_core.proofs.cluster.Core.scan.Goals as goal
-use Rattle.cluster_model.specs.State.{State, Unit}
-use Rattle.cluster_model.specs.Units.{can_scan, scanned}
+use Rattle.fixed_topology.specs.State.{State, Unit}
+use Rattle.fixed_topology.specs.Units.{can_scan, scanned}
 
 pub overflow_sub-place : goal.overflow_sub-place
 overflow_sub-place c = let there = scan_there c.args.self.now c.args.scan.now c.requires in omega (arith, there.positive, c.number.ensures)

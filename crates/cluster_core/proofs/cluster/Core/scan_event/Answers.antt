@@ -7,7 +7,7 @@ use Rattle.grid_event.specs.declared.event.ScanEvent.{ScanEvent}
 use Rattle.grid_event.specs.declared.event.Event.TheVariants as events
 use Rattle.cluster_core.proofs.ChoiceLaws.{scan_event-some}
 use Rattle.cluster_core.proofs.cluster.Core.scan_event.Goals as goal
-use Rattle.cluster_model.specs.Units.{next_of, read_by}
+use Rattle.fixed_topology.specs.Units.{next_of, read_by}
 
 pub returns-then-not-can_read : goal.returns-then-not-can_read
 returns-then-not-can_read c =

@@ -3,7 +3,7 @@ use Rattle.std.proofs.Common.{◌≡◌, true, subst}
 use Rattle.grid_event.specs.declared.event.Event.{Event}
 use Rattle.cluster_core.proofs.ChoiceLaws.{begin_runs}
 use Rattle.cluster_core.proofs.cluster.Core.take.Goals as goal
-use Rattle.cluster_model.specs.Step.{allowed}
+use Rattle.fixed_topology.specs.Step.{allowed}
 
 pub begin-requires : goal.begin-requires
 begin-requires c =

@@ -5,8 +5,8 @@ use Rattle.cluster_core.proofs.CellTrees.{insert-cells}
 use Rattle.cluster_core.proofs.OneNode.{written-one}
 use Rattle.cluster_core.proofs.Seen.{one_of}
 use Rattle.cluster_core.proofs.cluster.Core.write.Goals as goal
-use Rattle.cluster_model.specs.State.{State}
-use Rattle.cluster_model.specs.Writes.{written}
+use Rattle.fixed_topology.specs.State.{State}
+use Rattle.fixed_topology.specs.Writes.{written}
 
 pub returns-clause-ok : goal.returns-clause-ok
 returns-clause-ok c =

@@ -2,9 +2,9 @@
 use Rattle.std.specs.Prelude.{◌≡◌, true, Some}
 use Rattle.grid_event.specs.declared.command.Command.{Command}
 use Rattle.grid_event.specs.declared.event.Event.{Event}
-use Rattle.cluster_model.specs.State.{State}
-use Rattle.cluster_model.specs.Step.{allowed}
-use Rattle.cluster_model.specs.Commands.{chosen}
+use Rattle.fixed_topology.specs.State.{State}
+use Rattle.fixed_topology.specs.Step.{allowed}
+use Rattle.fixed_topology.specs.Commands.{chosen}
 
 -- the event that a command chooses may happen
 abbrev pub ChosenEventsMayHappen : Type 0

@@ -12,9 +12,9 @@ use Rattle.grid_event.specs.declared.outcome.Outcome.TheVariants.{Value}
 use Rattle.grid_event.specs.declared.pipeline.End.{End}
 use Rattle.grid_event.specs.declared.pipeline.End.TheVariants as ends
 use Rattle.grid_event.specs.declared.pipeline.Pipeline.{Pipeline}
-use Rattle.cluster_model.specs.State.{Call, State, call_of, is_ended}
-use Rattle.cluster_model.specs.Owners.{segments_of}
-use Rattle.cluster_model.specs.Calls.{can_go_on, incomplete}
+use Rattle.fixed_topology.specs.State.{Call, State, call_of, is_ended}
+use Rattle.fixed_topology.specs.Owners.{segments_of}
+use Rattle.fixed_topology.specs.Calls.{can_go_on, incomplete}
 
 -- what the end of a pipeline makes of a list of entries
 abbrev pub end_of : End → List Entry → Answer

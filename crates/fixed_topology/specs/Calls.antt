@@ -11,9 +11,9 @@ use Rattle.grid_event.specs.declared.event.RoundEvent.{RoundEvent}
 use Rattle.delivery_mode.specs.declared.guarantee.Guarantee.{Guarantee}
 use Rattle.delivery_mode.specs.declared.guarantee.Guarantee.TheVariants.{Exact, AtLeast, AtMost}
 use Rattle.grid_event.specs.declared.request.Request.{Request}
-use Rattle.cluster_model.specs.State.{Asked, Call, State, Unit, call_of, is_ended, is_open}
-use Rattle.cluster_model.specs.Owners.{first_reader, installed_id, is_live, segments_of}
-use Rattle.cluster_model.specs.Writes.{has_reader}
+use Rattle.fixed_topology.specs.State.{Asked, Call, State, Unit, call_of, is_ended, is_open}
+use Rattle.fixed_topology.specs.Owners.{first_reader, installed_id, is_live, segments_of}
+use Rattle.fixed_topology.specs.Writes.{has_reader}
 
 abbrev pub is_exact : Guarantee → Bool
 is_exact Exact = true

@@ -7,9 +7,9 @@ use Rattle.grid_base.specs.declared.datum.Datum.TheVariants as data_of
 use Rattle.grid_event.specs.declared.event.WriteEvent.{WriteEvent}
 use Rattle.grid_event.specs.declared.value_kind.ValueKind.{ValueKind}
 use Rattle.grid_event.specs.declared.value_kind.ValueKind.TheVariants as kinds
-use Rattle.cluster_model.specs.Cells.{put_at}
-use Rattle.cluster_model.specs.State.{State}
-use Rattle.cluster_model.specs.Owners.{is_live, readers, segment_of, writers}
+use Rattle.fixed_topology.specs.Cells.{put_at}
+use Rattle.fixed_topology.specs.State.{State}
+use Rattle.fixed_topology.specs.Owners.{is_live, readers, segment_of, writers}
 
 -- the value has the kind
 abbrev pub is_of_kind : ValueKind → Datum → Bool

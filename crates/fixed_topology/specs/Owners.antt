@@ -3,7 +3,7 @@
 use Rattle.std.specs.Prelude.{ℕ, ◌+◌, ◌%◌, min, suc, zero, Bool, nat_lt, List, [], ◌∷◌, ◌++◌, map, find, Option}
 use Rattle.grid_event.specs.declared.config.Config.{Config}
 use Rattle.segment_hash.specs.Segments.{segment_number}
-use Rattle.cluster_model.specs.State.{State}
+use Rattle.fixed_topology.specs.State.{State}
 
 -- the numbers below n, ascending
 abbrev pub below : ℕ → List ℕ

@@ -5,15 +5,15 @@ use Rattle.grid_event.specs.declared.command.Command.TheVariants.{Put, Call, Dri
 use Rattle.grid_event.specs.declared.event.Event.{Event}
 use Rattle.grid_event.specs.declared.event.Event.TheVariants as events
 use Rattle.grid_event.specs.declared.outcome.Outcome.{Outcome}
-use Rattle.cluster_model.specs.State.{State, Unit, call_of, unit_of}
-use Rattle.cluster_model.specs.State as states
+use Rattle.fixed_topology.specs.State.{State, Unit, call_of, unit_of}
+use Rattle.fixed_topology.specs.State as states
 use Rattle.std.specs.Option.{option_map}
-use Rattle.cluster_model.specs.Owners.{installed_id}
-use Rattle.cluster_model.specs.Calls.{asks_of}
-use Rattle.cluster_model.specs.Units.{next_of}
-use Rattle.cluster_model.specs.Answers.{outcome_of}
-use Rattle.cluster_model.specs.Step.{allowed}
-use Rattle.cluster_model.specs.Commands.{answer_event, answer_with, chosen, first_some, if_allowed, open_units, or_else, round_event, scan_event, unit_event}
+use Rattle.fixed_topology.specs.Owners.{installed_id}
+use Rattle.fixed_topology.specs.Calls.{asks_of}
+use Rattle.fixed_topology.specs.Units.{next_of}
+use Rattle.fixed_topology.specs.Answers.{outcome_of}
+use Rattle.fixed_topology.specs.Step.{allowed}
+use Rattle.fixed_topology.specs.Commands.{answer_event, answer_with, chosen, first_some, if_allowed, open_units, or_else, round_event, scan_event, unit_event}
 
 -- what there is may happen
 abbrev pub MayHappen : State → Option Event → Type 0

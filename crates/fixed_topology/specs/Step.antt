@@ -4,11 +4,11 @@ use Rattle.grid_event.specs.declared.event.Event.{Event}
 use Rattle.grid_event.specs.declared.event.Event.TheVariants.{Write, Invoke, Round, Begin, Scan, Done, Answer}
 use Rattle.grid_event.specs.declared.config.Config.{Config}
 use Rattle.grid_event.specs.Histories.{History}
-use Rattle.cluster_model.specs.State.{State, start}
-use Rattle.cluster_model.specs.Writes.{can_write, written}
-use Rattle.cluster_model.specs.Calls.{can_invoke, invoked, can_round, rounded}
-use Rattle.cluster_model.specs.Units.{can_begin, begun, can_scan, scanned, can_end, ended}
-use Rattle.cluster_model.specs.Answers.{can_answer, answered}
+use Rattle.fixed_topology.specs.State.{State, start}
+use Rattle.fixed_topology.specs.Writes.{can_write, written}
+use Rattle.fixed_topology.specs.Calls.{can_invoke, invoked, can_round, rounded}
+use Rattle.fixed_topology.specs.Units.{can_begin, begun, can_scan, scanned, can_end, ended}
+use Rattle.fixed_topology.specs.Answers.{can_answer, answered}
 
 -- the event may happen now
 abbrev pub allowed : State → Event → Bool

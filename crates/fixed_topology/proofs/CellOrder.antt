@@ -1,7 +1,7 @@
 -- Cells are totally ordered.
 use Rattle.std.specs.Cmp.{IsTotalOrder, nat_cmp_total, on_total, then_total}
 use Rattle.std.specs.Cmp.Lexicographic.{nat_list_cmp_total}
-use Rattle.cluster_model.specs.Cells.{Cell, cell_cmp}
+use Rattle.fixed_topology.specs.Cells.{Cell, cell_cmp}
 
 -- by node, then by segment, then by key is a total order
 pub cells_total : IsTotalOrder cell_cmp

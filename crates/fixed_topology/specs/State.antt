@@ -6,7 +6,7 @@ use Rattle.grid_base.specs.declared.entry.Entry.{Entry}
 use Rattle.grid_event.specs.declared.config.Config.{Config}
 use Rattle.grid_event.specs.declared.request.Request.{Request}
 use Rattle.grid_event.specs.declared.outcome.Outcome.{Outcome}
-use Rattle.cluster_model.specs.Cells.{Copies}
+use Rattle.fixed_topology.specs.Cells.{Copies}
 
 -- how far a unit has come
 pub data Stage : Type 0 where

@@ -4,13 +4,13 @@ use Rattle.std.specs.List.{list_any}
 use Rattle.grid_base.specs.declared.limits.TheConstants.{MOST_READ}
 use Rattle.grid_base.specs.declared.entry.Entry.{Entry}
 use Rattle.grid_base.specs.Portion.{Portion}
-use Rattle.cluster_model.specs.Same.{same_batch}
+use Rattle.fixed_topology.specs.Same.{same_batch}
 use Rattle.grid_event.specs.declared.event.ScanEvent.{ScanEvent}
-use Rattle.cluster_model.specs.Cells.{part_of}
-use Rattle.cluster_model.specs.State.{Call, Ended, Running, State, Unit, call_of, is_asked, is_running, unit_of}
-use Rattle.cluster_model.specs.Owners.{installed_id, readers}
-use Rattle.cluster_model.specs.Next.{last_key, next_batch}
-use Rattle.cluster_model.specs.Calls.{can_go_on}
+use Rattle.fixed_topology.specs.Cells.{part_of}
+use Rattle.fixed_topology.specs.State.{Call, Ended, Running, State, Unit, call_of, is_asked, is_running, unit_of}
+use Rattle.fixed_topology.specs.Owners.{installed_id, readers}
+use Rattle.fixed_topology.specs.Next.{last_key, next_batch}
+use Rattle.fixed_topology.specs.Calls.{can_go_on}
 
 -- the unit's node reads its segment by the topology that it has installed
 abbrev pub reads : State → Unit → Bool

@@ -7,13 +7,13 @@ use Rattle.grid_event.specs.declared.command.Command.TheVariants.{Put, Call, Dri
 use Rattle.grid_event.specs.declared.event.Event.{Event}
 use Rattle.grid_event.specs.declared.outcome.Outcome.{Outcome}
 use Rattle.grid_event.specs.declared.event.Event.TheVariants as events
-use Rattle.cluster_model.specs.State.{State, Unit, call_of, is_open, unit_of}
-use Rattle.cluster_model.specs.State as states
-use Rattle.cluster_model.specs.Owners.{installed_id, segments_of}
-use Rattle.cluster_model.specs.Calls.{asks_of}
-use Rattle.cluster_model.specs.Units.{next_of}
-use Rattle.cluster_model.specs.Answers.{outcome_of}
-use Rattle.cluster_model.specs.Step.{allowed}
+use Rattle.fixed_topology.specs.State.{State, Unit, call_of, is_open, unit_of}
+use Rattle.fixed_topology.specs.State as states
+use Rattle.fixed_topology.specs.Owners.{installed_id, segments_of}
+use Rattle.fixed_topology.specs.Calls.{asks_of}
+use Rattle.fixed_topology.specs.Units.{next_of}
+use Rattle.fixed_topology.specs.Answers.{outcome_of}
+use Rattle.fixed_topology.specs.Step.{allowed}
 
 -- the event, where it may happen
 abbrev pub if_allowed : State → Event → Option Event
