@@ -6,9 +6,9 @@ use Rattle.segment_hash.specs.declared.partition.Partition.TheVariants.{Plain, G
 use Rattle.segment_hash.proofs.SegmentLaws.{segment_only}
 use Rattle.grid_event.specs.Configs.{is_config, is_up_to}
 use Rattle.grid_base.specs.declared.limits.TheConstants.{LAST_CALL}
-use Rattle.grid_event.specs.declared.event.InvokeEvent.{InvokeEvent}
+use Rattle.grid_event.specs.declared.call_events.InvokeEvent.{InvokeEvent}
 use Rattle.grid_event.specs.declared.config.Config.{Config}
-use Rattle.grid_event.specs.declared.event.WriteEvent.{WriteEvent}
+use Rattle.grid_event.specs.declared.store_events.WriteEvent.{WriteEvent}
 use Rattle.cluster_core.specs.Served.{IsOne, is_plain, is_served}
 use Rattle.fixed_topology.specs.State.{Call, State, call_of}
 use Rattle.fixed_topology.specs.Owners.{first_owners, is_live, segment_of, segments_of, writers}
