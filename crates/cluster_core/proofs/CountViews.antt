@@ -1,5 +1,5 @@
--- A call that counts is seen in full by its numbers and its count.
-use Rattle.std.proofs.Common.{◌≡◌, ℕ, Bool, true, false, ◌&&◌, ◌==◌, [], ◌∷◌, List, Option, None, Some, refl, sym, ap, ◌∙◌, arith}
+-- A request that counts, and an outcome that is a count.
+use Rattle.std.proofs.Common.{◌≡◌, ℕ, Bool, true, false, ◌&&◌, ◌==◌, [], ◌∷◌, List, None, Some, refl, sym, ap, ◌∙◌, arith}
 use Rattle.std.proofs.lemmas.Bool.Decides.{nat_tests}
 use Rattle.delivery_mode.specs.declared.guarantee.Guarantee.{Guarantee}
 use Rattle.delivery_mode.specs.declared.guarantee.Guarantee.TheVariants.{Exact, AtLeast, AtMost}
@@ -12,14 +12,9 @@ use Rattle.pipeline_expr.specs.declared.end.End.{End}
 use Rattle.pipeline_expr.specs.declared.end.End.TheVariants as ends
 use Rattle.pipeline_expr.specs.declared.op.Op.{Op}
 use Rattle.pipeline_expr.specs.declared.pipeline.Pipeline.{Pipeline}
-use Rattle.cluster_core.specs.Views.{asks_to_count, count_in, count_of, counted, outcome_of, plain_count}
+use Rattle.cluster_core.specs.Views.{asks_to_count, count_in, counted}
 use Rattle.fixed_topology.specs.Answers.{same_answer, same_outcome}
 use Rattle.fixed_topology.specs.Calls.{is_count, is_counting, is_exact, is_nothing, is_request}
-
--- the count of an answered call is seen in its outcome
-pub count_back : (count : Option ℕ) → count_of (outcome_of count) ≡ count
-count_back None = refl
-count_back (Some count) = refl
 
 exact_is : (guarantee : Guarantee) → is_exact guarantee ≡ true → guarantee ≡ Exact
 exact_is Exact h = refl
@@ -51,14 +46,15 @@ pub request_counts : (request : Request) → is_request request ≡ true → ask
 request_counts request may =
     let parts = all_of (is_exact request.guarantee) _ _ (is_nothing request.pipeline.ops) (is_counting request.pipeline.end) may in
     let guarantee = sym (exact_is request.guarantee parts.0) in
-    let ops = sym (nothing_is request.pipeline.ops parts.1.0) in
-    let end = sym (counting_is request.pipeline.end parts.1.1) in
+    let ops = sym (nothing_is request.pipeline.ops parts.1) in
+    let end = sym (counting_is request.pipeline.end parts.2) in
     λ i. record { guarantee = guarantee i; rounds = request.rounds; batch = request.batch; pipeline = record { ops = ops i; end = end i } }
 
 same_count : (answer : Answer) (count : ℕ) → same_answer answer (answers.Count count) ≡ true → counted (count_in (Value answer)) ≡ Value answer
 same_count (answers.Count n) count h = refl
 same_count (answers.Sum n) count h = absurd (cc)
-same_count (answers.Best best) count h = absurd (cc)
+same_count (answers.Best None) count h = absurd (cc)
+same_count (answers.Best (Some best)) count h = absurd (cc)
 same_count (answers.List items) count h = absurd (cc)
 
 -- an outcome that is the same as a count is one

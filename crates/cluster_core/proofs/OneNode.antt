@@ -140,3 +140,14 @@ unfolding invoked
 invoked-one st one i may =
     ap (λ node. record st { calls = map_of.insert st.calls i.call (record { originator = node; request = i.request; rounds = 0; outcome = None }) })
     (sym (originator-one st one i may))
+
+all_but_last : (a b c d : Bool) → (a && (b && (c && d))) ≡ true → d ≡ true
+all_but_last true true true d h = h
+all_but_last true true false d h = absurd (cc)
+all_but_last true false c d h = absurd (cc)
+all_but_last false b c d h = absurd (cc)
+
+-- its request is one of this cluster
+pub request-one : (st : State) (i : InvokeEvent) → can_invoke st i ≡ true → is_request i.request ≡ true
+unfolding can_invoke
+request-one st i may = all_but_last (is_live st i.node) (is_none (call_of st i.call)) (is_up_to LAST_CALL i.call) (is_request i.request) may

@@ -18,11 +18,15 @@ pub struct Call {
 }
 
 impl Model for Call {
-    ghost use Rattle.cluster_core.proofs.CountViews.{count_back};
+    ghost use Rattle.std.specs.Prelude.{◌≡◌, None, Some};
+    ghost use Rattle.std.specs.Coded.{codes};
+    ghost use Rattle.pipeline_expr.specs.contracts.expr.Expr as exprs;
     ghost use Rattle.cluster_core.specs.Views.{asks_to_count, count_of, outcome_of};
     ghost use Rattle.fixed_topology.specs.State as states;
 
     ghost Value = { states.Call };
+
+    ghost coded = { Prim.hlevel (codes, exprs.the_row.coded) };
 
     ghost view = { λ call. record {
       originator = 0;
@@ -42,7 +46,7 @@ impl Model for Call {
       granted = call.granted;
       batch = call.batch;
       rounds = call.rounds;
-      count = count_back call.count i;
+      count = (elim call.count as (λ count. count_of (outcome_of count) ≡ count) [ None ↦ λ j. None | Some n ↦ λ j. Some n ]) i;
     } };
 }
 

@@ -41,13 +41,14 @@ pub struct Core {
 impl Model for Core {
     ghost use Rattle.std.specs.FinMap as map_of;
     ghost use Rattle.std.specs.Coded.{codes, coded_ℕ};
+    ghost use Rattle.pipeline_expr.specs.contracts.expr.Expr as exprs;
     ghost use Rattle.std.specs.Ordering.{nat_cmp};
     ghost use Rattle.fixed_topology.specs.Cells.{cell_cmp};
     ghost use Rattle.fixed_topology.specs.State.{State};
 
     ghost Value = { State };
 
-    ghost coded = { Prim.hlevel (codes, map_of.code) };
+    ghost coded = { Prim.hlevel (codes, map_of.code, exprs.the_row.coded) };
 
     ghost use Rattle.cluster_core.specs.Insides.{state_of, IsCore};
 
