@@ -1,9 +1,0 @@
-pub mod LineReads
-pub mod Numbers
-pub mod OrderReads
-pub mod OrderTexts
-pub mod Progress
-pub mod Refusing
-pub mod SettingsReads
-pub mod Splitting
-pub mod Uniqueness

@@ -1,5 +1,1 @@
-pub mod Readers
-pub mod Orders
 pub mod Scripts
-pub mod Refusals
-pub mod Tables

@@ -8,6 +8,8 @@ use grid_event::Command;
 pub enum Order {
     /// One command.
     One(Command),
+    /// Advances until nothing is left to advance.
+    Settle,
     /// Drives a call until it is answered.
     Finish(CallId),
 }

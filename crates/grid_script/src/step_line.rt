@@ -1,4 +1,4 @@
-//! The lines of a script.
+//! The lines of a script of a stepped run.
 
 use crate::order::Order;
 

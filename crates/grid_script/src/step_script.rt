@@ -5,9 +5,8 @@ use grid_event::Config;
 use sqlite_items::Items;
 use std::marker::Model;
 
-/// A script of a stepped run: the settings of the cluster, and its lines in their order. Each script
-/// keeps the rules: the settings and all numbers are in their limits, lines are numbered from 8,
-/// each call is new, and each finish names a call that a line before it makes.
+/// A script of a stepped run: the settings of the cluster, which are in their limits, and the lines
+/// that order something, in their order.
 #[derive(Debug, Drop)]
 pub struct StepScript {
     pub config: Config,
@@ -15,11 +14,13 @@ pub struct StepScript {
 }
 
 impl Model for StepScript {
-    ghost use Rattle.grid_script.specs.Scripts.{IsScript, Script};
+    ghost use Rattle.std.specs.Prelude.{◌≡◌, true};
+    ghost use Rattle.grid_event.specs.Configs.{is_config};
+    ghost use Rattle.grid_script.specs.Scripts.{Steps};
 
-    ghost Value = { Script };
+    ghost Value = { Steps };
 
     ghost view = { λ script. record { config = script.config; lines = script.lines } };
 
-    ghost invariant = { λ script. IsScript (record { config = script.config; lines = script.lines }) };
+    ghost invariant = { λ script. is_config script.config ≡ true };
 }
