@@ -19,10 +19,14 @@ pub struct LiveScript {
 
 impl Model for LiveScript {
     ghost use Rattle.std.specs.Prelude.{◌≡◌, true};
+    ghost use Rattle.std.specs.Coded.{codes};
+    ghost use Rattle.pipeline_expr.specs.contracts.expr.Expr as exprs;
     ghost use Rattle.grid_event.specs.Configs.{is_config};
     ghost use Rattle.grid_script.specs.Scripts.{Lives, are_numbered};
 
     ghost Value = { Lives };
+
+    ghost coded = { Prim.hlevel (codes, exprs.the_row.coded) };
 
     ghost view = { λ script. record { config = script.config; load = script.load.list; changes = script.changes; sessions = script.sessions } };
 

@@ -15,10 +15,14 @@ pub struct StepScript {
 
 impl Model for StepScript {
     ghost use Rattle.std.specs.Prelude.{◌≡◌, true};
+    ghost use Rattle.std.specs.Coded.{codes};
+    ghost use Rattle.pipeline_expr.specs.contracts.expr.Expr as exprs;
     ghost use Rattle.grid_event.specs.Configs.{is_config};
     ghost use Rattle.grid_script.specs.Scripts.{Steps};
 
     ghost Value = { Steps };
+
+    ghost coded = { Prim.hlevel (codes, exprs.the_row.coded) };
 
     ghost view = { λ script. record { config = script.config; lines = script.lines } };
 
