@@ -28,7 +28,7 @@ use Rattle.fixed_topology.specs.State.{Call, State, Unit, call_of, is_asked, uni
 use Rattle.fixed_topology.specs.Owners.{installed_id}
 use Rattle.fixed_topology.specs.Same.{same_batch}
 use Rattle.fixed_topology.specs.Answers.{can_answer, evidence}
-use Rattle.fixed_topology.specs.Calls.{asks_of, can_go_on, can_round, has_open, is_complete, same_asks}
+use Rattle.fixed_topology.specs.Calls.{asks_of, can_round, has_open, is_complete, same_asks}
 use Rattle.fixed_topology.specs.Units.{can_begin, can_begin_unit, can_read, can_scan, next_of, read_by}
 use Rattle.fixed_topology.specs.Commands.{answer_event, answer_with, first_some, open_on, open_units, or_else, round_event, scan_event, unit_event}
 

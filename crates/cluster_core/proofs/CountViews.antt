@@ -1,6 +1,5 @@
 -- A request that counts, and an outcome that is a count.
-use Rattle.std.proofs.Common.{◌≡◌, ℕ, Bool, true, false, ◌&&◌, ◌==◌, [], ◌∷◌, List, None, Some, refl, sym, ap, ◌∙◌, arith}
-use Rattle.std.proofs.lemmas.Bool.Decides.{nat_tests}
+use Rattle.std.proofs.Common.{◌≡◌, ℕ, Bool, true, false, ◌&&◌, [], ◌∷◌, List, None, Some, refl, sym}
 use Rattle.delivery_mode.specs.declared.guarantee.Guarantee.{Guarantee}
 use Rattle.delivery_mode.specs.declared.guarantee.Guarantee.TheVariants.{Exact, AtLeast, AtMost}
 use Rattle.grid_event.specs.declared.outcome.Outcome.{Outcome}
@@ -11,10 +10,9 @@ use Rattle.pipeline_expr.specs.declared.answer.Answer.TheVariants as answers
 use Rattle.pipeline_expr.specs.declared.end.End.{End}
 use Rattle.pipeline_expr.specs.declared.end.End.TheVariants as ends
 use Rattle.pipeline_expr.specs.declared.op.Op.{Op}
-use Rattle.pipeline_expr.specs.declared.pipeline.Pipeline.{Pipeline}
 use Rattle.cluster_core.specs.Views.{asks_to_count, count_in, counted}
 use Rattle.fixed_topology.specs.Answers.{same_answer, same_outcome}
-use Rattle.fixed_topology.specs.Calls.{is_count, is_counting, is_exact, is_nothing, is_request}
+use Rattle.fixed_topology.specs.Calls.{is_counting, is_exact, is_nothing, is_request}
 
 exact_is : (guarantee : Guarantee) → is_exact guarantee ≡ true → guarantee ≡ Exact
 exact_is Exact h = refl
