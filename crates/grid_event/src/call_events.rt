@@ -4,9 +4,7 @@ ghost use Rattle.std.specs.Prelude.{◌≡◌, IfOk};
 
 use crate::outcome::Outcome;
 use crate::request::Request;
-use grid_base::{
-    CallId, Duplicate, NoMemory, NodeId, SegmentId, SessionId, TopologyId, UnitId,
-};
+use grid_base::{CallId, Duplicate, NoMemory, NodeId, SegmentId, SessionId, TopologyId, UnitId};
 use sqlite_items::Items;
 use std::alloc::Global;
 

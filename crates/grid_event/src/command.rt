@@ -18,21 +18,39 @@ pub enum Command {
         lifespan: Option<u32>,
     },
     /// Erases what stands at a key.
-    Erase { by: SessionId, node: NodeId, key: Key },
+    Erase {
+        by: SessionId,
+        node: NodeId,
+        key: Key,
+    },
     /// Lets the clock go on by so many ticks.
-    Tick { ticks: u32 },
+    Tick {
+        ticks: u32,
+    },
     /// Lets a node join the cluster.
-    Join { node: NodeId },
+    Join {
+        node: NodeId,
+    },
     /// Lets a node leave the cluster.
-    Depart { node: NodeId },
+    Depart {
+        node: NodeId,
+    },
     /// Announces the next topology.
     Announce,
     /// Lets a node install the topology that follows its own.
-    Install { node: NodeId },
+    Install {
+        node: NodeId,
+    },
     /// Copies the next chunk of a segment to a receiver.
-    Copy { receiver: NodeId, segment: SegmentId },
+    Copy {
+        receiver: NodeId,
+        segment: SegmentId,
+    },
     /// Ends the copy of a segment to a receiver.
-    Land { receiver: NodeId, segment: SegmentId },
+    Land {
+        receiver: NodeId,
+        segment: SegmentId,
+    },
     /// Makes a call.
     Call {
         by: SessionId,
@@ -41,25 +59,48 @@ pub enum Command {
         request: Request,
     },
     /// Lets a call ask nodes for the segments that it still needs.
-    Round { call: CallId },
+    Round {
+        call: CallId,
+    },
     /// Lets the call's unit for a segment be looked at by its node.
-    Begin { call: CallId, segment: SegmentId },
+    Begin {
+        call: CallId,
+        segment: SegmentId,
+    },
     /// Lets the call's unit for a segment read its next entries.
-    Scan { call: CallId, segment: SegmentId },
+    Scan {
+        call: CallId,
+        segment: SegmentId,
+    },
     /// Lets the call's unit for a segment hand its next entries on.
-    Fetch { call: CallId, segment: SegmentId },
+    Fetch {
+        call: CallId,
+        segment: SegmentId,
+    },
     /// Lets the call take what its unit for a segment has handed on.
-    Take { call: CallId, segment: SegmentId },
+    Take {
+        call: CallId,
+        segment: SegmentId,
+    },
     /// Ends the call's unit for a segment.
-    Done { call: CallId, segment: SegmentId },
+    Done {
+        call: CallId,
+        segment: SegmentId,
+    },
     /// Answers a call.
-    Answer { call: CallId },
+    Answer {
+        call: CallId,
+    },
     /// Brings the cluster's rebalance one step nearer to its end.
     Advance,
     /// Brings a call one step nearer to its answer.
-    Drive { call: CallId },
+    Drive {
+        call: CallId,
+    },
     /// Lets a node do the next step that is asked of it.
-    Serve { node: NodeId },
+    Serve {
+        node: NodeId,
+    },
 }
 
 impl Command {
@@ -68,9 +109,21 @@ impl Command {
         ensures { IfOk result (λ copy. copy ≡ self.now) }
     {
         match *self {
-            Command::Put { by, node, key, ref value, lifespan } => {
+            Command::Put {
+                by,
+                node,
+                key,
+                ref value,
+                lifespan,
+            } => {
                 let value = value.copy(alloc)?;
-                Ok(Command::Put { by, node, key, value, lifespan })
+                Ok(Command::Put {
+                    by,
+                    node,
+                    key,
+                    value,
+                    lifespan,
+                })
             }
             Command::Erase { by, node, key } => Ok(Command::Erase { by, node, key }),
             Command::Tick { ticks } => Ok(Command::Tick { ticks }),
@@ -80,9 +133,19 @@ impl Command {
             Command::Install { node } => Ok(Command::Install { node }),
             Command::Copy { receiver, segment } => Ok(Command::Copy { receiver, segment }),
             Command::Land { receiver, segment } => Ok(Command::Land { receiver, segment }),
-            Command::Call { by, call, node, ref request } => {
+            Command::Call {
+                by,
+                call,
+                node,
+                ref request,
+            } => {
                 let request = request.copy(alloc)?;
-                Ok(Command::Call { by, call, node, request })
+                Ok(Command::Call {
+                    by,
+                    call,
+                    node,
+                    request,
+                })
             }
             Command::Round { call } => Ok(Command::Round { call }),
             Command::Begin { call, segment } => Ok(Command::Begin { call, segment }),

@@ -2,7 +2,6 @@
 
 ghost use Rattle.std.specs.Prelude.{◌≡◌};
 
-
 use grid_base::limits::{MOST_CHUNK, MOST_NODES, MOST_OWNERS, MOST_SEGMENTS};
 use pipeline_expr::ValueKind;
 use segment_hash::Partition;

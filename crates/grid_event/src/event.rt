@@ -19,27 +19,44 @@ pub enum Event {
     Write(Boxed<WriteEvent>),
     Erase(Boxed<EraseEvent>),
     /// The clock went on by so many ticks.
-    Tick { ticks: u32 },
+    Tick {
+        ticks: u32,
+    },
     /// A node joined the cluster.
-    Join { node: NodeId },
+    Join {
+        node: NodeId,
+    },
     /// A node left the cluster.
-    Depart { node: NodeId },
+    Depart {
+        node: NodeId,
+    },
     /// A topology was announced; no node has installed it yet.
     Announce(Boxed<Topology>),
     /// A node installed an announced topology.
-    Install { node: NodeId, id: TopologyId },
+    Install {
+        node: NodeId,
+        id: TopologyId,
+    },
     Copy(Boxed<CopyEvent>),
     /// A receiver has every entry of a segment that was copied to it.
-    Land { receiver: NodeId, segment: SegmentId },
+    Land {
+        receiver: NodeId,
+        segment: SegmentId,
+    },
     Invoke(Boxed<InvokeEvent>),
     Round(Boxed<RoundEvent>),
     /// An asked unit was looked at: it runs where its node reads its segment.
-    Begin { unit: UnitId, runs: bool },
+    Begin {
+        unit: UnitId,
+        runs: bool,
+    },
     Scan(Boxed<ScanEvent>),
     Fetch(Boxed<FetchEvent>),
     Take(Boxed<TakeEvent>),
     /// A unit ended, and its segment is complete for its call.
-    Done { unit: UnitId },
+    Done {
+        unit: UnitId,
+    },
     Answer(Boxed<AnswerEvent>),
 }
 

@@ -23,7 +23,9 @@ pub use event::Event;
 pub use idle::Idle;
 pub use journal::Journal;
 pub use outcome::Outcome;
-pub use pipeline_expr::{Answer, CheckFault, End, Expr, Exprs, Kind, Op, Ops, Pipeline, Spread, ValueKind};
+pub use pipeline_expr::{
+    Answer, CheckFault, End, Expr, Exprs, Kind, Op, Ops, Pipeline, Spread, ValueKind,
+};
 pub use push_fault::PushFault;
 pub use request::Request;
 pub use segment_hash::Partition;
@@ -31,3 +33,5 @@ pub use store_events::{CopyEvent, EraseEvent, WriteEvent};
 pub use topology_phase::Topology;
 pub use unit_events::{FetchEvent, ScanEvent, TakeEvent};
 
+#[cfg(test)]
+mod tests;

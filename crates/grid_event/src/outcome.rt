@@ -62,8 +62,14 @@ impl Outcome {
             (Outcome::Value(a), Outcome::Value(b)) => a.same(b),
             (Outcome::Ended, Outcome::Ended) => true,
             (
-                Outcome::Again { rounds: a, suspect: s },
-                Outcome::Again { rounds: b, suspect: t },
+                Outcome::Again {
+                    rounds: a,
+                    suspect: s,
+                },
+                Outcome::Again {
+                    rounds: b,
+                    suspect: t,
+                },
             ) => a == b && s == t,
             (Outcome::SegmentLost(a), Outcome::SegmentLost(b)) => a == b,
             (Outcome::OriginatorLeft, Outcome::OriginatorLeft) => true,
