@@ -142,7 +142,7 @@ fn run_asked<S: Source, K: Sink>(
                 keys,
                 steps,
             },
-        ) => run_generated(alloc, form, (seed, keys, steps), sink, journal),
+        ) => run_generated(alloc, form, seed, keys, steps, sink, journal),
         _ => {
             let _ = write_all(sink, usage());
             Status::Usage

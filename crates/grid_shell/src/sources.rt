@@ -83,32 +83,34 @@ pub(crate) fn run_source<S: Source, K: Sink>(
 pub(crate) fn run_generated<K: Sink>(
     alloc: Global,
     form: Form,
-    sizes: (u32, u32, u32),
+    seed: u32,
+    keys: u32,
+    steps: u32,
     sink: &mut K,
     journal: &mut Journal,
 ) -> Status
     requires { journal.old.history ≡ blank }
     ensures ending { (result ≡ Status.ScriptRefused) ⊎ IsEnding result }
-    ensures refused { result ≡ Status.ScriptRefused → (is_served (generated sizes.0 sizes.1 sizes.2) ≡ false)
+    ensures refused { result ≡ Status.ScriptRefused → (is_served (generated seed keys steps) ≡ false)
         × Wrote (K.told sink.old) (K.told sink.new) (K.faults sink.old) (K.faults sink.new) (refused_line 0 NotYet) }
     ensures full { result ≡ Status.Full → (line : ℕ)
-        × ((is_served (generated sizes.0 sizes.1 sizes.2) ≡ true) × IsRunTo line journal.new.history (generated sizes.0 sizes.1 sizes.2))
+        × ((is_served (generated seed keys steps) ≡ true) × IsRunTo line journal.new.history (generated seed keys steps))
         × Wrote (K.told sink.old) (K.told sink.new) (K.faults sink.old) (K.faults sink.new) (full_line line) }
     ensures write_fault { result ≡ Status.WriteFault →
-        ((is_served (generated sizes.0 sizes.1 sizes.2) ≡ true) × IsWholeRun journal.new.history (generated sizes.0 sizes.1 sizes.2)
+        ((is_served (generated seed keys steps) ≡ true) × IsWholeRun journal.new.history (generated seed keys steps)
         × AppendsPart (K.told sink.old) (K.told sink.new) (text_of form journal.new.history))
         × Rose (K.faults sink.old) (K.faults sink.new) }
     ensures done { result ≡ Status.Done →
-        (is_served (generated sizes.0 sizes.1 sizes.2) ≡ true) × IsWholeRun journal.new.history (generated sizes.0 sizes.1 sizes.2)
+        (is_served (generated seed keys steps) ≡ true) × IsWholeRun journal.new.history (generated seed keys steps)
         × Appends (K.told sink.old) (K.told sink.new) (text_of form journal.new.history) }
     ensures no_memory { result ≡ Status.NoMemory → (journal.new.history ≡ blank)
-        ⊎ ((is_served (generated sizes.0 sizes.1 sizes.2) ≡ true) × IsRunFront journal.new.history (generated sizes.0 sizes.1 sizes.2)) }
+        ⊎ ((is_served (generated seed keys steps) ≡ true) × IsRunFront journal.new.history (generated seed keys steps)) }
     ensures run { is_run journal.new.history ≡ true }
     ensures unused { result ≡ Status.ScriptRefused → journal.new.history ≡ blank }
     ensures unwritten { result ≡ Status.NoMemory → sink.new ≡ sink.old }
     ensures writes_counted { K.faults sink.old ≤ K.faults sink.new }
 {
-    let Ok(script) = generate(alloc, sizes.0, sizes.1, sizes.2) else {
+    let Ok(script) = generate(alloc, seed, keys, steps) else {
         return Status::NoMemory;
     };
     run_script(alloc, form, &script, sink, journal)
