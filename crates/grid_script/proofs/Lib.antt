@@ -1,0 +1,6 @@
+pub mod Cutting
+pub mod Pipelines
+pub mod CallSets
+pub mod Following
+pub mod Numbering
+pub mod Keeping

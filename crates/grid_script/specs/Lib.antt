@@ -1,1 +1,14 @@
 pub mod Scripts
+pub mod Faults
+pub mod Judging
+pub mod Fields
+pub mod Words
+pub mod Rules
+pub mod Sets
+pub mod StepLines
+pub mod LiveLines
+pub mod Lines
+pub mod Settings
+pub mod Heads
+pub mod Reading
+pub mod Generating

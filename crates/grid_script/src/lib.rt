@@ -4,19 +4,38 @@
 //! its reason. The generator makes long scripts of stepped runs from a number.
 #![tactic(auto)]
 
+mod asked;
+mod call_set;
+mod call_words;
 mod deed;
 mod generator;
+mod head_words;
+mod known;
+mod line_fault;
+mod lines;
+mod live_known;
+mod live_lines;
 mod live_script;
+mod live_told;
+mod load;
 mod member;
+mod members;
 mod order;
+mod put_words;
+pub mod readers;
 mod reading;
 mod reason;
+mod rules;
 mod script;
 mod script_fault;
 mod script_kind;
+mod section;
 mod session;
+mod settings;
 mod step_line;
+mod step_lines;
 mod step_script;
+mod words;
 
 pub use deed::Deed;
 pub use generator::generate;

@@ -1,0 +1,40 @@
+-- The pipeline of a text, by what a parse tells of it.
+use Rattle.std.proofs.Common.{◌≡◌, ℕ, ◌+◌, ◌<◌, ◌≤◌, Bool, true, false, cond, nat_le, List, length, Result, Ok, Err, refl, sym, ap, ◌∙◌, arith}
+use Rattle.std.proofs.lemmas.Bool.Decides.{nat_tests}
+use Rattle.grid_base.specs.declared.limits.TheConstants.{LONGEST_LINE}
+use Rattle.pipeline_expr.specs.declared.pipeline.Pipeline.{Pipeline}
+use Rattle.pipeline_parse.specs.Grammar.{fits, text_of}
+use Rattle.pipeline_parse.specs.Parsing.{pipeline_at}
+use Rattle.pipeline_parse.proofs.Exactness.{found, only}
+use Rattle.grid_script.specs.declared.reason.Reason.TheVariants.{Syntax}
+use Rattle.grid_script.specs.Fields.{pipeline_of}
+use Rattle.grid_script.specs.Judging.{spelt}
+
+within : (n : ℕ) → n ≤ LONGEST_LINE → nat_le n LONGEST_LINE ≡ true
+within n h = grind (arith, nat_tests)
+
+past : (n : ℕ) → LONGEST_LINE < n → nat_le n LONGEST_LINE ≡ false
+past n h = grind (arith, nat_tests)
+
+-- a pipeline of that text is the one
+pub pipeline_found : (s : List ℕ) (p : Pipeline) → length s ≤ LONGEST_LINE → text_of p ≡ s → fits p ≡ true → spelt (pipeline_of s) ≡ Ok p
+unfolding pipeline_of
+pipeline_found s p room text fit =
+    ap (λ t. spelt (cond t (pipeline_at (length s + 1) s) (Err (length s)))) (within (length s) room)
+    ∙ ap spelt (only (length s + 1) s p (omega arith) fit text)
+
+-- where no pipeline has that text, it is a fault of syntax
+pub pipeline_none : (s : List ℕ) → length s ≤ LONGEST_LINE → ((p : Pipeline) → fits p ≡ true → text_of p ≡ s → ⊥) → spelt (pipeline_of s) ≡ Err Syntax
+unfolding pipeline_of
+pipeline_none s room none =
+    ap (λ t. spelt (cond t (pipeline_at (length s + 1) s) (Err (length s)))) (within (length s) room)
+    ∙ go (pipeline_at (length s + 1) s) refl
+  where
+    go : (r : Result Pipeline ℕ) → pipeline_at (length s + 1) s ≡ r → spelt r ≡ Err Syntax
+    go (Ok p) e = let h = found (length s + 1) s p e in absurd (none p h.1 h.0)
+    go (Err left) e = refl
+
+-- a longer text stands in no line
+pub pipeline_long : (s : List ℕ) → LONGEST_LINE < length s → spelt (pipeline_of s) ≡ Err Syntax
+unfolding pipeline_of
+pipeline_long s more = ap (λ t. spelt (cond t (pipeline_at (length s + 1) s) (Err (length s)))) (past (length s) more)

@@ -1,0 +1,11 @@
+use Rattle.std.proofs.Common.{◌≡◌, List, ◌++◌}
+use Rattle.grid_script.specs.declared.order.Order.{Order}
+use Rattle.grid_script.specs.Generating.{key_orders, numbered, state_after}
+use Rattle.grid_script.proofs.generator.add_keys.Given as goal
+
+-- the state behind the draws so far, and the lines so far
+abbrev pub invariant-loop-number : goal.invariant-loop-number
+invariant-loop-number l = record {
+  state : l.state ≡ state_after l.seed l.number;
+  lines : (before : List Order) → l.fn.lines ≡ numbered 8 before → l.lines ≡ numbered 8 (before ++ key_orders l.seed l.number);
+}

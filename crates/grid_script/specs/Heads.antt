@@ -1,0 +1,20 @@
+-- What the calls that read the head of a script tell.
+use Rattle.std.specs.Prelude.{◌≡◌, List, Option, Some, None, Result, Ok, Err, if◌then◌else◌}
+use Rattle.grid_event.specs.declared.config.Config.{Config}
+use Rattle.grid_script.specs.declared.head_words.Setting.{Setting}
+use Rattle.grid_script.specs.declared.script_fault.ScriptFault.{ScriptFault}
+use Rattle.grid_script.specs.declared.script_fault.ScriptFault.TheVariants.{Refused, NoMemory}
+use Rattle.grid_script.specs.declared.settings.Head.{Head}
+use Rattle.grid_script.specs.Judging.{Judged, Told, ◌>>=◌}
+use Rattle.grid_script.specs.Lines.{Line, is_whole, lines_of, says_nothing}
+use Rattle.grid_script.specs.Settings.{Behind, setting_in}
+
+-- the settings, and the lines behind them
+abbrev pub behind_of : Head → Behind Config
+behind_of head = record { it = head.config; next = head.number; lines = lines_of head.rest.now }
+
+-- the call answers the settings and the lines behind them, or memory ran out
+abbrev pub Heads : Result Head ScriptFault → Told (Behind Config) → Type 0
+Heads (Ok head) told = told ≡ Ok (behind_of head)
+Heads (Err (Refused line reason)) told = told ≡ Err (line, reason)
+Heads (Err NoMemory) told = Unit {0}
