@@ -3,7 +3,7 @@ use Rattle.std.proofs.Common.{◌≡◌, ℕ, zero, suc, ◌+◌, List, [], ◌�
 use Rattle.std.proofs.lemmas.List.{append-nil}
 use Rattle.std.proofs.lemmas.List.FromFn.{map-range_with_len_more}
 use Rattle.std.specs.List.{join_with_byte, range_with_len}
-use Rattle.grid_event.specs.declared.event.Ask.{Ask}
+use Rattle.grid_event.specs.declared.call_events.Ask.{Ask}
 use Rattle.grid_journal.specs.Events.{ask_text, asks_text}
 use Rattle.grid_journal.specs.Words.{between, each_behind}
 
@@ -46,6 +46,7 @@ row_step byte f place front out between_out after stands separated added =
 -- the first ask and the others behind a comma each are the row of asks
 pub asks_whole : (asks : List Ask) (first : Ask) (others : List Ask) (front out after : List ℕ)
     → asks ≡ first ∷ others → out ≡ front ++ ask_text first → after ≡ out ++ each_behind 44 (map ask_text others) → after ≡ front ++ asks_text asks
+unfolding asks_text
 asks_whole asks first others front out after split one rest =
     rest ∙ (ap (λ text. text ++ each_behind 44 (map ask_text others)) one
     ∙ (append_assoc front (ask_text first) (each_behind 44 (map ask_text others))

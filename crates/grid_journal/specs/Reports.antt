@@ -1,14 +1,17 @@
 -- The report of a history: its settings, its first topology, its events with the notes of idle lines, and its end.
-use Rattle.std.specs.Prelude.{ℕ, ◌+◌, ◌-◌, ◌%◌, min, Option, None, Some, List, [], ◌∷◌, ◌++◌, length, take, drop, codes, decimal, map}
-use Rattle.std.specs.List.{join_with_byte, range_with_len}
+use Rattle.std.specs.Prelude.{ℕ, ◌+◌, ◌-◌, Option, None, Some, List, [], ◌∷◌, ◌++◌, length, take, drop, codes, decimal}
+use Rattle.std.specs.List.{range_with_len}
 use Rattle.grid_event.specs.declared.config.Config.{Config}
 use Rattle.grid_event.specs.declared.event.Event.{Event}
 use Rattle.grid_event.specs.declared.idle.Idle.{Idle}
 use Rattle.segment_hash.specs.declared.partition.Partition.{Partition}
 use Rattle.segment_hash.specs.declared.partition.Partition.TheVariants.{Plain, Grouped}
-use Rattle.grid_event.specs.declared.value_kind.ValueKind.{ValueKind}
-use Rattle.grid_event.specs.declared.value_kind.ValueKind.TheVariants.{Int, Text, Flag}
+use Rattle.pipeline_expr.specs.declared.kind.ValueKind.{ValueKind}
+use Rattle.pipeline_expr.specs.declared.kind.ValueKind.TheVariants.{Int, Text, Flag}
 use Rattle.grid_event.specs.Histories.{History}
+use Rattle.hash_factory.specs.Formulas.{created}
+use Rattle.topology_phase.specs.Owners.{Hash}
+use Rattle.grid_journal.specs.Topologies.{hash_text}
 use Rattle.grid_journal.specs.Words.{words}
 use Rattle.grid_journal.specs.Events.{event_text}
 
@@ -40,21 +43,17 @@ kinds_text config = words (codes "partition" ∷ partition_text config.partition
 abbrev pub config_text : Config → List ℕ
 config_text config = words (sizes_text config ∷ kinds_text config ∷ codes "chunk" ∷ decimal config.chunk ∷ [])
 
--- the owner of a segment at a place: the nodes from the segment's number on, in a circle
-abbrev pub owner_text : Config → ℕ → ℕ → List ℕ
-owner_text config segment place = decimal ((segment + place) % config.nodes)
+-- the first nodes, which are numbered from 0
+abbrev pub first_nodes : Config → List ℕ
+first_nodes config = range_with_len 0 config.nodes
 
--- a segment has as many owners as the settings say, or all nodes where there are fewer
-abbrev pub owners_text : Config → ℕ → List ℕ
-owners_text config segment = join_with_byte 44 (map (owner_text config segment) (range_with_len 0 (min config.owners config.nodes)))
-
--- the first hash: the owners of each segment
-abbrev pub hash_text : Config → List ℕ
-hash_text config = join_with_byte 59 (map (owners_text config) (range_with_len 0 config.segments))
+-- the first hash: that of the first nodes
+abbrev pub first_hash : Config → Hash
+first_hash config = created (first_nodes config) config.segments config.owners
 
 -- the first topology, which stands before all events
-abbrev pub topology_text : Config → List ℕ
-topology_text config = codes "0 topology 1 NO_REBALANCE " ++ hash_text config
+abbrev pub first_text : Config → List ℕ
+first_text config = codes "0 topology 1 NO_REBALANCE " ++ hash_text (first_hash config)
 
 -- events with their places, the first of which comes behind `place` other events
 abbrev pub events_text : ℕ → List Event → List ℕ
@@ -80,7 +79,7 @@ end_line count = line (words (codes "end" ∷ decimal count ∷ []))
 -- the settings and the first topology, where there are settings
 abbrev pub head_text : Option Config → List ℕ
 head_text None = []
-head_text (Some config) = line (config_text config) ++ line (topology_text config)
+head_text (Some config) = line (config_text config) ++ line (first_text config)
 
 -- the whole report
 abbrev pub report_text : History → List ℕ

@@ -1,10 +1,12 @@
--- Words in a row: what stands between them, and the texts of values, entries and lists of entries.
-use Rattle.std.specs.Prelude.{ℕ, Bool, true, false, Option, None, Some, List, [], ◌∷◌, ◌++◌, length, codes, decimal, map, zero, suc}
-use Rattle.std.specs.Fmt.{signed_decimal}
+-- Words in a row: what stands between them, and the texts of values, entries, items and lists of them.
+use Rattle.std.specs.Prelude.{ℕ, Option, None, Some, List, [], ◌∷◌, ◌++◌, length, decimal, map, zero, suc}
 use Rattle.std.specs.List.{join_with_byte}
-use Rattle.grid_base.specs.declared.datum.Datum.{Datum}
-use Rattle.grid_base.specs.declared.datum.Datum.TheVariants.{Int, Text, Flag}
 use Rattle.grid_base.specs.declared.entry.Entry.{Entry}
+use Rattle.grid_base.specs.declared.item.Item.{Item}
+use Rattle.grid_base.specs.declared.item.Item.TheVariants as items
+use Rattle.grid_base.specs.declared.stamped.Stamped.{Stamped}
+use Rattle.grid_base.specs.declared.stamped_entry.StampedEntry.{StampedEntry}
+use Rattle.pipeline_parse.specs.Grammar.{datum_text}
 
 -- the words with one blank between each two
 abbrev pub words : List (List ℕ) → List ℕ
@@ -20,26 +22,28 @@ abbrev pub between : ℕ → ℕ → List ℕ
 between byte zero = []
 between byte (suc place) = byte ∷ []
 
--- a flag is `true` or `false`
-abbrev pub flag_text : Bool → List ℕ
-flag_text true = codes "true"
-flag_text false = codes "false"
-
--- an int in decimal, a text in double quotes, or a flag
-abbrev pub datum_text : Datum → List ℕ
-datum_text (Int number) = signed_decimal number
-datum_text (Text text) = 34 ∷ (text ++ 34 ∷ [])
-datum_text (Flag flag) = flag_text flag
-
 -- nothing for a value that stays, and a tilde with the deadline for one that leaves
 abbrev pub until_text : Option ℕ → List ℕ
 until_text None = []
 until_text (Some deadline) = 126 ∷ decimal deadline
 
+-- a value and its deadline
+abbrev pub stamped_text : Stamped → List ℕ
+stamped_text stamped = datum_text stamped.value ++ until_text stamped.until
+
 -- a key and its value
 abbrev pub entry_text : Entry → List ℕ
 entry_text entry = words (entry.key ∷ datum_text entry.value ∷ [])
 
--- how many entries there are, and each of them behind a blank
-abbrev pub entries_text : List Entry → List ℕ
-entries_text entries = decimal (length entries) ++ each_behind 32 (map entry_text entries)
+-- a key and its value with its deadline
+abbrev pub stamped_entry_text : StampedEntry → List ℕ
+stamped_entry_text entry = words (entry.key ∷ stamped_text entry.stamped ∷ [])
+
+-- an entry stands behind an at sign; a value stands alone
+abbrev pub item_text : Item → List ℕ
+item_text (items.Entry entry) = 64 ∷ entry_text entry
+item_text (items.Datum datum) = datum_text datum
+
+-- how many there are, and the text of each behind a blank
+abbrev pub counted_text : {T : Type 0} → (T → List ℕ) → List T → List ℕ
+counted_text text list = decimal (length list) ++ each_behind 32 (map text list)

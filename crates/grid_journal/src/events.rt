@@ -1,17 +1,25 @@
 //! The texts of events.
 
 ghost use Rattle.std.specs.Prelude.{◌≡◌, [], ◌∷◌, ◌++◌, IfOk, OnOk, codes, decimal, map};
+ghost use Rattle.grid_base.specs.Portion.{Portion};
+ghost use Rattle.pipeline_parse.specs.Grammar.{text_of};
 ghost use Rattle.grid_journal.specs.Words.{each_behind, words};
-ghost use Rattle.grid_journal.specs.Events.{answer_text, ask_text, asks_text, event_text, guarantee_text, invoke_text};
-ghost use Rattle.grid_journal.specs.Events.{last_text, outcome_text, pipeline_text, request_text, round_text, runs_text};
-ghost use Rattle.grid_journal.specs.Events.{scan_text, write_text};
+ghost use Rattle.grid_journal.specs.Events.{ask_text, asks_text, batch_text, copy_text, erase_text, event_text, guarantee_text, invoke_text};
+ghost use Rattle.grid_journal.specs.Events.{last_text, outcome_text, request_text, round_text, runs_text, take_text, write_text};
+ghost use Rattle.grid_journal.specs.Topologies.{topology_text};
 
-use crate::words::{add_datum, add_entries, add_number, add_number_word, add_until, add_word};
-use grid_base::{Bytes, NoMemory};
-use grid_event::{
-    Answer, AnswerEvent, Ask, End, Event, Guarantee, InvokeEvent, Outcome, Pipeline, Request,
-    RoundEvent, ScanEvent, WriteEvent,
+use crate::outcomes::add_outcome;
+use crate::topologies::add_topology;
+use crate::words::{
+    add_entries, add_items, add_number, add_number_word, add_stamped_entries, add_until, add_word,
 };
+use grid_base::{Batch, Bytes, NoMemory};
+use grid_event::{
+    AnswerEvent, Ask, CopyEvent, EraseEvent, Event, Guarantee, InvokeEvent, Pipeline, Request,
+    RoundEvent, TakeEvent, Topology, WriteEvent,
+};
+use pipeline_parse::print_pipeline;
+use pipeline_parse::writing::add_datum;
 use std::alloc::Global;
 
 /// The text of an event: the word of its kind and its fields in their order, with one blank between
@@ -20,26 +28,68 @@ pub fn print_event(alloc: Global, event: &Event) -> Result<Bytes, NoMemory>
     ensures { IfOk result (λ out. out.list ≡ event_text event.now) }
 {
     let mut out = Bytes::new(alloc);
-    add_event(&mut out, event)?;
+    add_event(alloc, &mut out, event)?;
     Ok(out)
 }
 
 /// Adds the text of an event.
-pub(crate) fn add_event(out: &mut Bytes, event: &Event) -> Result<(), NoMemory>
+#[tactic(auto, unfolding(crate::specs::Events::event_text))]
+pub(crate) fn add_event(alloc: Global, out: &mut Bytes, event: &Event) -> Result<(), NoMemory>
     ensures { OnOk result (out.new.list ≡ out.old.list ++ event_text event.now) }
 {
     match event {
         Event::Write(write) => add_write(out, write.get()),
-        Event::Invoke(invoke) => add_invoke(out, invoke.get()),
+        Event::Erase(erase) => add_erase(out, erase.get()),
+        Event::Tick { ticks } => add_numbered(out, b"tick", *ticks),
+        Event::Join { node } => add_numbered(out, b"join", u32::from(node.number())),
+        Event::Depart { node } => add_numbered(out, b"depart", u32::from(node.number())),
+        Event::Announce(topology) => add_announce(out, topology.get()),
+        Event::Install { node, id } => {
+            add_pair(out, b"install", u32::from(node.number()), id.number())
+        }
+        Event::Copy(copy) => add_copy(out, copy.get()),
+        Event::Land { receiver, segment } => add_pair(
+            out,
+            b"land",
+            u32::from(receiver.number()),
+            u32::from(segment.number()),
+        ),
+        Event::Invoke(invoke) => add_invoke(alloc, out, invoke.get()),
         Event::Round(round) => add_round(out, round.get()),
         Event::Begin { unit, runs } => add_begin(out, unit.number(), *runs),
-        Event::Scan(scan) => add_scan(out, scan.get()),
-        Event::Done { unit } => add_done(out, unit.number()),
+        Event::Scan(scan) => {
+            let scan = scan.get();
+            add_batch(out, b"scan", scan.unit.number(), &scan.batch)
+        }
+        Event::Fetch(fetch) => {
+            let fetch = fetch.get();
+            add_batch(out, b"fetch", fetch.unit.number(), &fetch.batch)
+        }
+        Event::Take(take) => add_take(out, take.get()),
+        Event::Done { unit } => add_numbered(out, b"done", unit.number()),
         Event::Answer(answer) => add_answer_event(out, answer.get()),
     }
 }
 
+/// Adds the word of a kind and a number.
+fn add_numbered(out: &mut Bytes, kind: &[u8], number: u32) -> Result<(), NoMemory>
+    ensures { OnOk result (out.new.list ≡ out.old.list ++ words (kind.now ∷ decimal number ∷ [])) }
+{
+    out.extend(kind)?;
+    add_number_word(out, u64::from(number))
+}
+
+/// Adds the word of a kind and two numbers.
+fn add_pair(out: &mut Bytes, kind: &[u8], first: u32, second: u32) -> Result<(), NoMemory>
+    ensures { OnOk result (out.new.list ≡ out.old.list ++ words (kind.now ∷ decimal first ∷ decimal second ∷ [])) }
+{
+    out.extend(kind)?;
+    add_number_word(out, u64::from(first))?;
+    add_number_word(out, u64::from(second))
+}
+
 /// Adds the text of a write.
+#[tactic(auto, unfolding(crate::specs::Events::write_text))]
 fn add_write(out: &mut Bytes, write: &WriteEvent) -> Result<(), NoMemory>
     ensures { OnOk result (out.new.list ≡ out.old.list ++ write_text write.now) }
 {
@@ -52,8 +102,42 @@ fn add_write(out: &mut Bytes, write: &WriteEvent) -> Result<(), NoMemory>
     add_until(out, write.until)
 }
 
+/// Adds the text of an erasing.
+#[tactic(auto, unfolding(crate::specs::Events::erase_text))]
+fn add_erase(out: &mut Bytes, erase: &EraseEvent) -> Result<(), NoMemory>
+    ensures { OnOk result (out.new.list ≡ out.old.list ++ erase_text erase.now) }
+{
+    out.extend(b"erase")?;
+    add_number_word(out, u64::from(erase.by.number()))?;
+    add_number_word(out, u64::from(erase.node.number()))?;
+    add_word(out, erase.key.bytes())
+}
+
+/// Adds the text of a topology that was announced.
+fn add_announce(out: &mut Bytes, topology: &Topology) -> Result<(), NoMemory>
+    ensures { OnOk result (out.new.list ≡ out.old.list ++ words (codes "announce" ∷ topology_text topology.now ∷ [])) }
+{
+    out.extend(b"announce ")?;
+    add_topology(out, topology)
+}
+
+/// Adds the text of a chunk that was copied.
+#[tactic(auto, unfolding(crate::specs::Events::copy_text))]
+fn add_copy(out: &mut Bytes, copy: &CopyEvent) -> Result<(), NoMemory>
+    ensures { OnOk result (out.new.list ≡ out.old.list ++ copy_text copy.now) }
+{
+    let chunk = &copy.batch;
+    out.extend(b"copy")?;
+    add_number_word(out, u64::from(copy.receiver.number()))?;
+    add_number_word(out, u64::from(copy.segment.number()))?;
+    add_number_word(out, u64::from(copy.provider.number()))?;
+    add_stamped_entries(out, chunk.entries.as_slice())?;
+    add_last(out, chunk.last)
+}
+
 /// Adds the text of a call that was made.
-fn add_invoke(out: &mut Bytes, invoke: &InvokeEvent) -> Result<(), NoMemory>
+#[tactic(auto, unfolding(crate::specs::Events::invoke_text))]
+fn add_invoke(alloc: Global, out: &mut Bytes, invoke: &InvokeEvent) -> Result<(), NoMemory>
     ensures { OnOk result (out.new.list ≡ out.old.list ++ invoke_text invoke.now) }
 {
     out.extend(b"invoke")?;
@@ -61,18 +145,19 @@ fn add_invoke(out: &mut Bytes, invoke: &InvokeEvent) -> Result<(), NoMemory>
     add_number_word(out, u64::from(invoke.call.number()))?;
     add_number_word(out, u64::from(invoke.node.number()))?;
     out.push(b' ')?;
-    add_request(out, &invoke.request)
+    add_request(alloc, out, &invoke.request)
 }
 
 /// Adds the text of what a call asks for.
-fn add_request(out: &mut Bytes, request: &Request) -> Result<(), NoMemory>
+#[tactic(auto, unfolding(crate::specs::Events::request_text))]
+fn add_request(alloc: Global, out: &mut Bytes, request: &Request) -> Result<(), NoMemory>
     ensures { OnOk result (out.new.list ≡ out.old.list ++ request_text request.now) }
 {
     add_guarantee(out, request.guarantee)?;
     add_number_word(out, u64::from(request.rounds))?;
     add_number_word(out, u64::from(request.batch))?;
     out.push(b' ')?;
-    add_pipeline(out, &request.pipeline)
+    add_pipeline(alloc, out, &request.pipeline)
 }
 
 /// Adds the word of a guarantee.
@@ -87,15 +172,15 @@ fn add_guarantee(out: &mut Bytes, guarantee: Guarantee) -> Result<(), NoMemory>
 }
 
 /// Adds the text of a pipeline.
-fn add_pipeline(out: &mut Bytes, pipeline: &Pipeline) -> Result<(), NoMemory>
-    ensures { OnOk result (out.new.list ≡ out.old.list ++ pipeline_text pipeline.now) }
+fn add_pipeline(alloc: Global, out: &mut Bytes, pipeline: &Pipeline) -> Result<(), NoMemory>
+    ensures { OnOk result (out.new.list ≡ out.old.list ++ text_of pipeline.now) }
 {
-    match pipeline.end {
-        End::Count => out.extend(b"count"),
-    }
+    let text = print_pipeline(alloc, pipeline)?;
+    out.extend(text.as_slice())
 }
 
 /// Adds the text of a round.
+#[tactic(auto, unfolding(crate::specs::Events::round_text))]
 fn add_round(out: &mut Bytes, round: &RoundEvent) -> Result<(), NoMemory>
     ensures { OnOk result (out.new.list ≡ out.old.list ++ round_text round.now) }
 {
@@ -107,6 +192,7 @@ fn add_round(out: &mut Bytes, round: &RoundEvent) -> Result<(), NoMemory>
 }
 
 /// Adds the asks of a round, with a comma between each two.
+#[tactic(auto, unfolding(crate::specs::Events::asks_text))]
 fn add_asks(out: &mut Bytes, asks: &[Ask]) -> Result<(), NoMemory>
     ensures { OnOk result (out.new.list ≡ out.old.list ++ asks_text asks.now) }
 {
@@ -160,15 +246,15 @@ fn add_runs(out: &mut Bytes, runs: bool) -> Result<(), NoMemory>
     }
 }
 
-/// Adds the text of a scan.
-fn add_scan(out: &mut Bytes, scan: &ScanEvent) -> Result<(), NoMemory>
-    ensures { OnOk result (out.new.list ≡ out.old.list ++ scan_text scan.now) }
+/// Adds the text of entries that a unit read or handed on.
+#[tactic(auto, unfolding(crate::specs::Events::batch_text))]
+fn add_batch(out: &mut Bytes, kind: &[u8], unit: u32, batch: &Batch) -> Result<(), NoMemory>
+    ensures { OnOk result (out.new.list ≡ out.old.list ++ batch_text kind.now unit batch.now) }
 {
-    out.extend(b"scan")?;
-    add_number_word(out, u64::from(scan.unit.number()))?;
-    out.push(b' ')?;
-    add_entries(out, scan.batch.entries.as_slice())?;
-    add_last(out, scan.batch.last)
+    out.extend(kind)?;
+    add_number_word(out, u64::from(unit))?;
+    add_entries(out, batch.entries.as_slice())?;
+    add_last(out, batch.last)
 }
 
 /// Adds a blank and whether more entries come.
@@ -182,12 +268,15 @@ fn add_last(out: &mut Bytes, last: bool) -> Result<(), NoMemory>
     }
 }
 
-/// Adds the text of a unit that ended.
-fn add_done(out: &mut Bytes, unit: u32) -> Result<(), NoMemory>
-    ensures { OnOk result (out.new.list ≡ out.old.list ++ words (codes "done" ∷ decimal unit ∷ [])) }
+/// Adds the text of what a call took.
+#[tactic(auto, unfolding(crate::specs::Events::take_text))]
+fn add_take(out: &mut Bytes, take: &TakeEvent) -> Result<(), NoMemory>
+    ensures { OnOk result (out.new.list ≡ out.old.list ++ take_text take.now) }
 {
-    out.extend(b"done")?;
-    add_number_word(out, u64::from(unit))
+    out.extend(b"take")?;
+    add_number_word(out, u64::from(take.unit.number()))?;
+    add_entries(out, take.entries.as_slice())?;
+    add_items(out, take.given.as_slice())
 }
 
 /// Adds the text of a call that was answered.
@@ -198,28 +287,4 @@ fn add_answer_event(out: &mut Bytes, answer: &AnswerEvent) -> Result<(), NoMemor
     add_number_word(out, u64::from(answer.call.number()))?;
     out.push(b' ')?;
     add_outcome(out, &answer.outcome)
-}
-
-/// Adds how a call ended.
-fn add_outcome(out: &mut Bytes, outcome: &Outcome) -> Result<(), NoMemory>
-    ensures { OnOk result (out.new.list ≡ out.old.list ++ outcome_text outcome.now) }
-{
-    match outcome {
-        Outcome::Value(answer) => {
-            out.extend(b"value ")?;
-            add_answer(out, answer)
-        }
-    }
-}
-
-/// Adds the answer of a pipeline.
-fn add_answer(out: &mut Bytes, answer: &Answer) -> Result<(), NoMemory>
-    ensures { OnOk result (out.new.list ≡ out.old.list ++ answer_text answer.now) }
-{
-    match answer {
-        Answer::Count(number) => {
-            out.extend(b"count")?;
-            add_number_word(out, *number)
-        }
-    }
 }

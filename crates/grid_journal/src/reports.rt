@@ -1,12 +1,15 @@
 //! The report of a journal.
 
-ghost use Rattle.std.specs.Prelude.{◌≡◌, ◌+◌, ◌<◌, ◌≤◌, ◌-◌, ◌^◌, ◌∷◌, ◌++◌, [], length, take, drop, IfOk, IsSome, OnOk, decimal};
-ghost use Rattle.grid_journal.specs.Reports.{config_text, end_line, events_text, hash_text, idle_text, kind_text, kinds_text, line, owner_text, owners_text};
-ghost use Rattle.grid_journal.specs.Reports.{partition_text, report_text, run_text, sizes_text, topology_text};
+ghost use Rattle.std.specs.Prelude.{◌≡◌, ◌+◌, ◌<◌, ◌≤◌, ◌-◌, ◌%◌, ◌^◌, ◌∷◌, ◌++◌, [], length, take, drop, IfOk, IsSome, OnOk, decimal};
+ghost use Rattle.hash_factory.specs.Formulas.{created_owners};
+ghost use Rattle.grid_journal.specs.Reports.{config_text, end_line, events_text, first_hash, first_nodes, first_text, idle_text, kind_text, kinds_text, line};
+ghost use Rattle.grid_journal.specs.Reports.{partition_text, report_text, run_text, sizes_text};
 ghost use Rattle.grid_journal.specs.Events.{event_text};
-ghost use Rattle.grid_journal.specs.Words.{between, words};
+ghost use Rattle.grid_journal.specs.Topologies.{hash_text, owners_text};
+ghost use Rattle.grid_journal.specs.Words.{words};
 
 use crate::events::add_event;
+use crate::topologies::add_between;
 use crate::words::{add_number, add_number_word};
 use grid_base::{Bytes, NoMemory};
 use grid_event::{Config, Event, Idle, Journal, Partition, ValueKind};
@@ -23,19 +26,20 @@ pub fn report(alloc: Global, journal: &Journal) -> Result<Bytes, NoMemory>
     if let Some(config) = journal.config() {
         add_head(&mut out, config)?;
     }
-    add_run(&mut out, journal)?;
+    add_run(alloc, &mut out, journal)?;
     add_end(&mut out, journal.len())?;
     Ok(out)
 }
 
 /// Adds the settings and the first topology, a line each.
 fn add_head(out: &mut Bytes, config: &Config) -> Result<(), NoMemory>
-    ensures { OnOk result (out.new.list ≡ out.old.list ++ (line (config_text config.now) ++ line (topology_text config.now))) }
+    requires { 0 < config.now.nodes }
+    ensures { OnOk result (out.new.list ≡ out.old.list ++ (line (config_text config.now) ++ line (first_text config.now))) }
 {
     add_config(out, config)?;
     out.push(b'\n')?;
     out.extend(b"0 topology 1 NO_REBALANCE ")?;
-    add_hash(out, config)?;
+    add_first_hash(out, config)?;
     out.push(b'\n')
 }
 
@@ -95,52 +99,49 @@ fn add_kind(out: &mut Bytes, kind: ValueKind) -> Result<(), NoMemory>
 }
 
 /// Adds the first hash: the owners of each segment, with a semicolon between each two.
-fn add_hash(out: &mut Bytes, config: &Config) -> Result<(), NoMemory>
-    ensures { OnOk result (out.new.list ≡ out.old.list ++ hash_text config.now) }
+fn add_first_hash(out: &mut Bytes, config: &Config) -> Result<(), NoMemory>
+    requires { 0 < config.now.nodes }
+    ensures { OnOk result (out.new.list ≡ out.old.list ++ hash_text (first_hash config.now)) }
 {
     for segment in 0..u32::from(config.segments) {
         add_between(out, b';', segment)?;
-        add_owners(out, config, segment)?;
+        add_first_owners(out, config, segment)?;
     }
     Ok(())
 }
 
 /// Adds the first owners of a segment, with a comma between each two.
-fn add_owners(out: &mut Bytes, config: &Config, segment: u32) -> Result<(), NoMemory>
-    requires { segment ≤ 65535 }
-    ensures { OnOk result (out.new.list ≡ out.old.list ++ owners_text config.now segment) }
+fn add_first_owners(out: &mut Bytes, config: &Config, segment: u32) -> Result<(), NoMemory>
+    requires segment { segment ≤ 65535 }
+    requires nodes { 0 < config.now.nodes }
+    ensures { OnOk result (out.new.list ≡ out.old.list ++ owners_text (created_owners (first_nodes config.now) segment config.now.owners)) }
 {
     let count = config.owners.min(config.nodes);
     for place in 0..u32::from(count) {
         add_between(out, b',', place)?;
-        add_owner(out, config, segment, place)?;
+        add_first_owner(out, config, segment, place)?;
     }
     Ok(())
 }
 
-/// Adds the owner of a segment at a place.
-fn add_owner(out: &mut Bytes, config: &Config, segment: u32, place: u32) -> Result<(), NoMemory>
+/// Adds the first owner of a segment at a place.
+fn add_first_owner(
+    out: &mut Bytes,
+    config: &Config,
+    segment: u32,
+    place: u32,
+) -> Result<(), NoMemory>
     requires segment { segment ≤ 65535 }
     requires place { place < config.now.nodes }
-    ensures { OnOk result (out.new.list ≡ out.old.list ++ owner_text config.now segment place) }
+    ensures { OnOk result (out.new.list ≡ out.old.list ++ decimal ((segment + place) % config.now.nodes)) }
 {
     let nodes = u32::from(config.nodes);
     let node = (segment + place) % nodes;
     add_number(out, u64::from(node))
 }
 
-/// Adds the byte that stands before each text of a row but the first.
-fn add_between(out: &mut Bytes, byte: u8, place: u32) -> Result<(), NoMemory>
-    ensures { OnOk result (out.new.list ≡ out.old.list ++ between byte place) }
-{
-    if place == 0 {
-        return Ok(());
-    }
-    out.push(byte)
-}
-
 /// Adds the events and the notes of idle lines.
-fn add_run(out: &mut Bytes, journal: &Journal) -> Result<(), NoMemory>
+fn add_run(alloc: Global, out: &mut Bytes, journal: &Journal) -> Result<(), NoMemory>
     ensures { OnOk result (out.new.list ≡ out.old.list ++ run_text 0 journal.now.history.events journal.now.history.idle) }
 {
     let len = journal.len();
@@ -148,7 +149,7 @@ fn add_run(out: &mut Bytes, journal: &Journal) -> Result<(), NoMemory>
     let mut number = 1u32;
     while let Some(note) = journal.idle(number) {
         let until = place.max(note.place.min(len));
-        add_events(out, journal, place, until)?;
+        add_events(alloc, out, journal, place, until)?;
         add_idle(out, note)?;
         place = until;
         if number == u32::MAX {
@@ -157,24 +158,35 @@ fn add_run(out: &mut Bytes, journal: &Journal) -> Result<(), NoMemory>
         }
         number += 1;
     }
-    add_events(out, journal, place, len)?;
+    add_events(alloc, out, journal, place, len)?;
     Ok(())
 }
 
 /// Adds the events from one place to another, a line each. The first event has place 0 here.
-fn add_events(out: &mut Bytes, journal: &Journal, from: u32, to: u32) -> Result<(), NoMemory>
+fn add_events(
+    alloc: Global,
+    out: &mut Bytes,
+    journal: &Journal,
+    from: u32,
+    to: u32,
+) -> Result<(), NoMemory>
     requires ordered { from ≤ to }
     requires within { to ≤ length journal.now.history.events }
     ensures { OnOk result (out.new.list ≡ out.old.list ++ events_text from (take (to - from) (drop from journal.now.history.events))) }
 {
     for place in from..to {
-        add_event_at(out, journal, place)?;
+        add_event_at(alloc, out, journal, place)?;
     }
     Ok(())
 }
 
 /// Adds the event behind `place` others, as a line with its place.
-fn add_event_at(out: &mut Bytes, journal: &Journal, place: u32) -> Result<(), NoMemory>
+fn add_event_at(
+    alloc: Global,
+    out: &mut Bytes,
+    journal: &Journal,
+    place: u32,
+) -> Result<(), NoMemory>
     requires there { place < length journal.now.history.events }
     requires room { place + 1 < 2 ^ 32 }
     ensures { OnOk result (out.new.list ≡ out.old.list ++ events_text place (take 1 (drop place journal.now.history.events))) }
@@ -182,17 +194,17 @@ fn add_event_at(out: &mut Bytes, journal: &Journal, place: u32) -> Result<(), No
     let Some(event) = journal.event(place + 1) else {
         return Ok(());
     };
-    add_event_line(out, place + 1, event)?;
+    add_event_line(alloc, out, place + 1, event)?;
     Ok(())
 }
 
 /// Adds an event and its place, as a line.
-fn add_event_line(out: &mut Bytes, place: u32, event: &Event) -> Result<(), NoMemory>
+fn add_event_line(alloc: Global, out: &mut Bytes, place: u32, event: &Event) -> Result<(), NoMemory>
     ensures { OnOk result (out.new.list ≡ out.old.list ++ line (words (decimal place ∷ event_text event.now ∷ []))) }
 {
     add_number(out, u64::from(place))?;
     out.push(b' ')?;
-    add_event(out, event)?;
+    add_event(alloc, out, event)?;
     out.push(b'\n')
 }
 

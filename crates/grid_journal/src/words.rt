@@ -1,12 +1,13 @@
-//! Writing words: numbers, values and lists of entries, at the end of a text. Each call fails only
-//! where memory runs out.
+//! Writing words: numbers, values and lists of entries and of items, at the end of a text. Each
+//! call fails only where memory runs out.
 
 ghost use Rattle.std.specs.Prelude.{◌≡◌, ◌∷◌, ◌++◌, [], OnOk, decimal, map};
 ghost use Rattle.std.specs.Fmt.{signed_decimal};
-ghost use Rattle.grid_journal.specs.Words.{datum_text, each_behind, entries_text, entry_text, flag_text, until_text};
+ghost use Rattle.grid_journal.specs.Words.{counted_text, each_behind, entry_text, item_text, stamped_entry_text, stamped_text, until_text};
 
-use grid_base::{Bytes, Datum, Entry, NoMemory};
+use grid_base::{Bytes, Entry, Item, NoMemory, Stamped, StampedEntry};
 use itoa::Buffer;
+use pipeline_parse::writing::add_datum;
 
 /// Adds a number in decimal.
 pub(crate) fn add_number(out: &mut Bytes, number: u64) -> Result<(), NoMemory>
@@ -32,41 +33,10 @@ pub(crate) fn add_word(out: &mut Bytes, word: &[u8]) -> Result<(), NoMemory>
 }
 
 /// Adds an int in decimal.
-fn add_int(out: &mut Bytes, number: i64) -> Result<(), NoMemory>
+pub(crate) fn add_int(out: &mut Bytes, number: i64) -> Result<(), NoMemory>
     ensures { OnOk result (out.new.list ≡ out.old.list ++ signed_decimal number) }
 {
     out.extend(Buffer::new().format(number).as_bytes())
-}
-
-/// Adds `true` or `false`.
-fn add_flag(out: &mut Bytes, flag: bool) -> Result<(), NoMemory>
-    ensures { OnOk result (out.new.list ≡ out.old.list ++ flag_text flag) }
-{
-    if flag {
-        out.extend(b"true")
-    } else {
-        out.extend(b"false")
-    }
-}
-
-/// Adds a text in double quotes.
-fn add_quoted(out: &mut Bytes, text: &[u8]) -> Result<(), NoMemory>
-    ensures { OnOk result (out.new.list ≡ out.old.list ++ (34 ∷ (text.now ++ 34 ∷ []))) }
-{
-    out.push(b'"')?;
-    out.extend(text)?;
-    out.push(b'"')
-}
-
-/// Adds a value.
-pub(crate) fn add_datum(out: &mut Bytes, datum: &Datum) -> Result<(), NoMemory>
-    ensures { OnOk result (out.new.list ≡ out.old.list ++ datum_text datum.now) }
-{
-    match datum {
-        Datum::Int(number) => add_int(out, *number),
-        Datum::Text(text) => add_quoted(out, text.bytes()),
-        Datum::Flag(flag) => add_flag(out, *flag),
-    }
 }
 
 /// Adds the deadline of a value, where it has one.
@@ -80,29 +50,98 @@ pub(crate) fn add_until(out: &mut Bytes, until: Option<u32>) -> Result<(), NoMem
     add_number(out, u64::from(deadline))
 }
 
-/// Adds a blank and an entry.
-fn add_entry_word(out: &mut Bytes, entry: &Entry) -> Result<(), NoMemory>
-    ensures { OnOk result (out.new.list ≡ out.old.list ++ 32 ∷ entry_text entry.now) }
+/// Adds a value and its deadline.
+fn add_stamped(out: &mut Bytes, stamped: &Stamped) -> Result<(), NoMemory>
+    ensures { OnOk result (out.new.list ≡ out.old.list ++ stamped_text stamped.now) }
 {
-    add_word(out, entry.key.bytes())?;
+    add_datum(out, &stamped.value)?;
+    add_until(out, stamped.until)
+}
+
+/// Adds an entry.
+fn add_entry(out: &mut Bytes, entry: &Entry) -> Result<(), NoMemory>
+    ensures { OnOk result (out.new.list ≡ out.old.list ++ entry_text entry.now) }
+{
+    out.extend(entry.key.bytes())?;
     out.push(b' ')?;
     add_datum(out, &entry.value)
 }
 
-/// Adds the number of entries, and each of them behind a blank.
-pub(crate) fn add_entries(out: &mut Bytes, entries: &[Entry]) -> Result<(), NoMemory>
-    ensures { OnOk result (out.new.list ≡ out.old.list ++ entries_text entries.now) }
+/// Adds an entry with its deadline.
+fn add_stamped_entry(out: &mut Bytes, entry: &StampedEntry) -> Result<(), NoMemory>
+    ensures { OnOk result (out.new.list ≡ out.old.list ++ stamped_entry_text entry.now) }
 {
-    add_number(out, entries.len() as u64)?;
-    add_entry_words(out, entries)
+    out.extend(entry.key.bytes())?;
+    out.push(b' ')?;
+    add_stamped(out, &entry.stamped)
+}
+
+/// Adds an item.
+fn add_item(out: &mut Bytes, item: &Item) -> Result<(), NoMemory>
+    ensures { OnOk result (out.new.list ≡ out.old.list ++ item_text item.now) }
+{
+    match item {
+        Item::Entry(entry) => {
+            out.push(b'@')?;
+            add_entry(out, entry)
+        }
+        Item::Datum(datum) => add_datum(out, datum),
+    }
+}
+
+/// Adds a blank, the number of entries, and each of them behind a blank.
+pub(crate) fn add_entries(out: &mut Bytes, entries: &[Entry]) -> Result<(), NoMemory>
+    ensures { OnOk result (out.new.list ≡ out.old.list ++ 32 ∷ counted_text entry_text entries.now) }
+{
+    add_number_word(out, entries.len() as u64)?;
+    add_each_entry(out, entries)
 }
 
 /// Adds each entry behind a blank.
-fn add_entry_words(out: &mut Bytes, entries: &[Entry]) -> Result<(), NoMemory>
+fn add_each_entry(out: &mut Bytes, entries: &[Entry]) -> Result<(), NoMemory>
     ensures { OnOk result (out.new.list ≡ out.old.list ++ each_behind 32 (map entry_text entries.now)) }
 {
     for entry in entries {
-        add_entry_word(out, entry)?;
+        out.push(b' ')?;
+        add_entry(out, entry)?;
+    }
+    Ok(())
+}
+
+/// Adds a blank, the number of entries, and each of them with its deadline behind a blank.
+pub(crate) fn add_stamped_entries(out: &mut Bytes, entries: &[StampedEntry]) -> Result<(), NoMemory>
+    ensures { OnOk result (out.new.list ≡ out.old.list ++ 32 ∷ counted_text stamped_entry_text entries.now) }
+{
+    add_number_word(out, entries.len() as u64)?;
+    add_each_stamped_entry(out, entries)
+}
+
+/// Adds each entry with its deadline behind a blank.
+fn add_each_stamped_entry(out: &mut Bytes, entries: &[StampedEntry]) -> Result<(), NoMemory>
+    ensures { OnOk result (out.new.list ≡ out.old.list ++ each_behind 32 (map stamped_entry_text entries.now)) }
+{
+    for entry in entries {
+        out.push(b' ')?;
+        add_stamped_entry(out, entry)?;
+    }
+    Ok(())
+}
+
+/// Adds a blank, the number of items, and each of them behind a blank.
+pub(crate) fn add_items(out: &mut Bytes, items: &[Item]) -> Result<(), NoMemory>
+    ensures { OnOk result (out.new.list ≡ out.old.list ++ 32 ∷ counted_text item_text items.now) }
+{
+    add_number_word(out, items.len() as u64)?;
+    add_each_item(out, items)
+}
+
+/// Adds each item behind a blank.
+fn add_each_item(out: &mut Bytes, items: &[Item]) -> Result<(), NoMemory>
+    ensures { OnOk result (out.new.list ≡ out.old.list ++ each_behind 32 (map item_text items.now)) }
+{
+    for item in items {
+        out.push(b' ')?;
+        add_item(out, item)?;
     }
     Ok(())
 }

@@ -1,9 +1,9 @@
 use Rattle.std.proofs.Common.{◌≡◌, ◌++◌, map}
 use Rattle.std.specs.List.{join_with_byte, range_with_len}
-use Rattle.grid_journal.specs.Reports.{owners_text}
-use Rattle.grid_journal.proofs.reports.add_hash.Given as goal
+use Rattle.grid_journal.proofs.Rows.{first_row_text}
+use Rattle.grid_journal.proofs.reports.add_first_hash.Given as goal
 
 -- the owners of the segments so far stand there
 abbrev pub invariant-loop-segment : goal.invariant-loop-segment
 invariant-loop-segment l =
-    l.out.list ≡ l.initial.out.list ++ join_with_byte 59 (map (owners_text l.config) (range_with_len 0 l.segment))
+    l.out.list ≡ l.initial.out.list ++ join_with_byte 59 (map (first_row_text l.config) (range_with_len 0 l.segment))
