@@ -6,7 +6,7 @@ use Rattle.grid_base.specs.declared.limits.TheConstants.{LONGEST_SCRIPT}
 use Rattle.grid_event.specs.declared.config.Config.{Config}
 use Rattle.grid_script.specs.Judging.{Answers, Told, ◌>>=◌}
 use Rattle.grid_script.specs.Lines.{lines_of}
-use Rattle.grid_script.specs.Reading.{body_of, script_of, step_start, steps_after}
+use Rattle.grid_script.specs.Reading.{after_all, body_of, script_of, step_after, step_start}
 use Rattle.grid_script.specs.Scripts.{Lives, Steps}
 use Rattle.grid_script.specs.Settings.{Behind, head_of}
 use Rattle.grid_script.specs.declared.reason.Reason.{Reason}
@@ -37,7 +37,7 @@ steps_alone (Err fault) f live h = cc
 body_alone : (r : Told (Behind Config)) (live : Lives) → (r >>= body_of kinds.Step) ≡ Ok (scripts.Live live) → ⊥
 unfolding body_of
 body_alone (Ok head) live h =
-    steps_alone (steps_after (step_start head.it) head.next head.lines) (λ known. record { config = known.config; lines = known.lines }) live h
+    steps_alone (after_all step_after (step_start head.it) head.next head.lines) (λ known. record { config = known.config; lines = known.lines }) live h
 body_alone (Err fault) live h = cc
 
 unless_long : (long : Bool) (r : Told Script) (live : Lives) → (if long then Err (0, TooLong) else r) ≡ Ok (scripts.Live live) → r ≡ Ok (scripts.Live live)
