@@ -13,22 +13,22 @@ use Rattle.grid_base.specs.declared.limits.TheConstants.{MOST_READ}
 use Rattle.grid_base.proofs.DatumLemmas.{same_entry-itself}
 use Rattle.grid_event.specs.declared.event.Event.{Event}
 use Rattle.grid_event.specs.declared.event.Event.TheVariants as events
-use Rattle.grid_event.specs.declared.event.AnswerEvent.{AnswerEvent}
-use Rattle.grid_event.specs.declared.outcome.Answer.TheVariants.{Count}
+use Rattle.grid_event.specs.declared.call_events.AnswerEvent.{AnswerEvent}
+use Rattle.pipeline_expr.specs.declared.answer.Answer.TheVariants.{Count}
 use Rattle.grid_event.specs.declared.outcome.Outcome.TheVariants.{Value}
 use Rattle.cluster_core.specs.Evidence.{event_at, is_open_for}
-use Rattle.cluster_core.specs.Views.{unit_here}
+use Rattle.cluster_core.specs.Views.{IsCountHere, unit_here}
 use Rattle.cluster_core.specs.Rounds.{ask_here, is_due_here}
 use Rattle.cluster_core.specs.Served.{IsOne}
 use Rattle.cluster_core.proofs.OneNode.{and_true, segments_of-one}
 use Rattle.cluster_core.proofs.RoundLaws.{asks_of-one, can_round-some}
-use Rattle.cluster_core.proofs.AnswerLaws.{can_answer-one, outcome_of-one}
+use Rattle.cluster_core.proofs.AnswerLaws.{can_answer-some, outcome_of-one}
 use Rattle.cluster_core.proofs.UnitLaws.{can_scan-some}
 use Rattle.fixed_topology.specs.State.{Call, State, Unit, call_of, is_asked, unit_of}
 use Rattle.fixed_topology.specs.Owners.{installed_id}
 use Rattle.fixed_topology.specs.Same.{same_batch}
 use Rattle.fixed_topology.specs.Answers.{can_answer, evidence}
-use Rattle.fixed_topology.specs.Calls.{asks_of, can_go_on, can_round, has_open, is_complete, same_asks}
+use Rattle.fixed_topology.specs.Calls.{asks_of, can_round, has_open, is_complete, same_asks}
 use Rattle.fixed_topology.specs.Units.{can_begin, can_begin_unit, can_read, can_scan, next_of, read_by}
 use Rattle.fixed_topology.specs.Commands.{answer_event, answer_with, first_some, open_on, open_units, or_else, round_event, scan_event, unit_event}
 
@@ -40,31 +40,35 @@ same_number n = grind (arith, nat_tests)
 abbrev counted : State → ℕ → AnswerEvent
 counted st number = record { call = number; outcome = Value (Count (length (evidence st number))) }
 
--- whether a call that goes on may be answered by it is whether it is complete
-counted_may : (st : State) → IsOne st.config → (number : ℕ) → can_answer st (counted st number) ≡ (can_go_on st (call_of st number) && is_complete st number 0)
-counted_may st one number =
-    can_answer-one st one (counted st number)
-    ∙ ap (λ same. can_go_on st (call_of st number) && (is_complete st number 0 && same)) (same_number (length (evidence st number)))
-    ∙ ap (λ b. can_go_on st (call_of st number) && b) (and_true (is_complete st number 0))
+-- a call may be answered by it where it is unanswered and complete
+counted_may : (st : State) → IsOne st.config → (number : ℕ) (call : Call) → Some call ≡ call_of st number → IsCountHere call →
+    can_answer st (counted st number) ≡ (is_none call.outcome && is_complete st number 0)
+counted_may st one number call there here =
+    can_answer-some st one (counted st number) call there here
+    ∙ ap (λ same. is_none call.outcome && (is_complete st number 0 && same)) (same_number (length (evidence st number)))
+    ∙ ap (λ b. is_none call.outcome && b) (and_true (is_complete st number 0))
 
--- a call that does not go on has no answer
-answer_event-by : (st : State) → IsOne st.config → (number : ℕ) (found : Option Call) (goes complete : Bool) → found ≡ call_of st number →
-    goes ≡ can_go_on st found → complete ≡ is_complete st number 0 →
-    answer_event st number found ≡ (if goes && complete then Some (events.Answer (counted st number)) else None)
-answer_event-by st one number None goes complete e g h = rw g refl
-answer_event-by st one number (Some call) goes false e g h =
-    ap (answer_with st number) (outcome_of-one st one number call)
-    ∙ rw (← h) (elim goes as (λ b. None ≡ (if b && false then Some (events.Answer (counted st number)) else None)) [ true ↦ refl | false ↦ refl ])
-answer_event-by st one number (Some call) goes true e g h =
-    ap (answer_with st number) (outcome_of-one st one number call)
+-- an answered call has no answer, nor has one that isn't complete
+answer_event-by : (st : State) → IsOne st.config → (number : ℕ) (call : Call) (unanswered complete : Bool) → Some call ≡ call_of st number → IsCountHere call →
+    unanswered ≡ is_none call.outcome → complete ≡ is_complete st number 0 →
+    answer_event st number (Some call) ≡ (if unanswered && complete then Some (events.Answer (counted st number)) else None)
+answer_event-by st one number call unanswered false there here u h =
+    ap (answer_with st number) (outcome_of-one st one number call here.pipeline)
+    ∙ rw (← h) (elim unanswered as (λ b. None ≡ (if b && false then Some (events.Answer (counted st number)) else None)) [ true ↦ refl | false ↦ refl ])
+answer_event-by st one number call unanswered true there here u h =
+    ap (answer_with st number) (outcome_of-one st one number call here.pipeline)
     ∙ rw (← h)
     (ap (λ (may : Bool). if may then Some (events.Answer (counted st number)) else None)
-    (counted_may st one number ∙ ap (λ b. b && is_complete st number 0) (ap (can_go_on st) (sym e) ∙ sym g) ∙ ap (λ b. goes && b) (sym h)))
+    (counted_may st one number call there here ∙ ap (λ b. b && is_complete st number 0) (sym u) ∙ ap (λ b. unanswered && b) (sym h)))
 
-pub answer_event-one : (st : State) → IsOne st.config → (number : ℕ) (goes complete : Bool) →
-    goes ≡ can_go_on st (call_of st number) → complete ≡ is_complete st number 0 →
-    (if goes && complete then Some (events.Answer (counted st number)) else None) ≡ answer_event st number (call_of st number)
-answer_event-one st one number goes complete g h = sym (answer_event-by st one number (call_of st number) goes complete refl g h)
+pub answer_event-some : (st : State) → IsOne st.config → (number : ℕ) (call : Call) (unanswered complete : Bool) → Some call ≡ call_of st number → IsCountHere call →
+    unanswered ≡ is_none call.outcome → complete ≡ is_complete st number 0 →
+    (if unanswered && complete then Some (events.Answer (counted st number)) else None) ≡ answer_event st number (call_of st number)
+answer_event-some st one number call unanswered complete there here u h =
+    sym (answer_event-by st one number call unanswered complete there here u h) ∙ ap (answer_event st number) there
+
+pub answer_event-none : (st : State) (number : ℕ) → None ≡ call_of st number → None ≡ answer_event st number (call_of st number)
+answer_event-none st number absent = ap (answer_event st number) absent
 
 -- a batch is the same as itself
 pointwise-itself : (es : List Entry) → pointwise same_entry es es ≡ true

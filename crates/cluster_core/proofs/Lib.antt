@@ -9,3 +9,4 @@ pub mod UnitWrites
 pub mod NextLaws
 pub mod AnswerLaws
 pub mod ChoiceLaws
+pub mod CountViews

@@ -6,9 +6,9 @@ use Rattle.segment_hash.specs.declared.partition.Partition.TheVariants.{Plain, G
 use Rattle.segment_hash.proofs.SegmentLaws.{segment_only}
 use Rattle.grid_event.specs.Configs.{is_config, is_up_to}
 use Rattle.grid_base.specs.declared.limits.TheConstants.{LAST_CALL}
-use Rattle.grid_event.specs.declared.event.InvokeEvent.{InvokeEvent}
+use Rattle.grid_event.specs.declared.call_events.InvokeEvent.{InvokeEvent}
 use Rattle.grid_event.specs.declared.config.Config.{Config}
-use Rattle.grid_event.specs.declared.event.WriteEvent.{WriteEvent}
+use Rattle.grid_event.specs.declared.store_events.WriteEvent.{WriteEvent}
 use Rattle.cluster_core.specs.Served.{IsOne, is_plain, is_served}
 use Rattle.fixed_topology.specs.State.{Call, State, call_of}
 use Rattle.fixed_topology.specs.Owners.{first_owners, is_live, segment_of, segments_of, writers}
@@ -140,3 +140,14 @@ unfolding invoked
 invoked-one st one i may =
     ap (λ node. record st { calls = map_of.insert st.calls i.call (record { originator = node; request = i.request; rounds = 0; outcome = None }) })
     (sym (originator-one st one i may))
+
+all_but_last : (a b c d : Bool) → (a && (b && (c && d))) ≡ true → d ≡ true
+all_but_last true true true d h = h
+all_but_last true true false d h = absurd (cc)
+all_but_last true false c d h = absurd (cc)
+all_but_last false b c d h = absurd (cc)
+
+-- its request is one of this cluster
+pub request-one : (st : State) (i : InvokeEvent) → can_invoke st i ≡ true → is_request i.request ≡ true
+unfolding can_invoke
+request-one st i may = all_but_last (is_live st i.node) (is_none (call_of st i.call)) (is_up_to LAST_CALL i.call) (is_request i.request) may

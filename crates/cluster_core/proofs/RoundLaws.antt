@@ -3,8 +3,8 @@ use Rattle.std.proofs.Common.{◌≡◌, ℕ, ◌+◌, ◌<◌, Bool, true, fals
 use Rattle.std.proofs.lemmas.Bool.Decides.{nat_tests}
 use Rattle.std.specs.FinMap as map_of
 use Rattle.std.specs.List.{list_all}
-use Rattle.grid_event.specs.declared.event.Ask.{Ask}
-use Rattle.grid_event.specs.declared.event.RoundEvent.{RoundEvent}
+use Rattle.grid_event.specs.declared.call_events.Ask.{Ask}
+use Rattle.grid_event.specs.declared.call_events.RoundEvent.{RoundEvent}
 use Rattle.cluster_core.specs.Rounds.{ask_here, is_due_here}
 use Rattle.cluster_core.specs.Served.{IsOne}
 use Rattle.cluster_core.specs.Views.{unit_here}

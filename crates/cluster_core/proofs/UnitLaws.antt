@@ -4,7 +4,7 @@ use Rattle.std.proofs.lemmas.Bool.Decides.{nat_tests}
 use Rattle.std.proofs.lemmas.Option.{slice_get_within}
 use Rattle.std.specs.Prelude.{slice_get, slice_set}
 use Rattle.grid_base.specs.declared.limits.TheConstants.{MOST_READ}
-use Rattle.grid_event.specs.declared.event.ScanEvent.{ScanEvent}
+use Rattle.grid_event.specs.declared.unit_events.ScanEvent.{ScanEvent}
 use Rattle.cluster_core.specs.Served.{IsOne}
 use Rattle.cluster_core.specs.Views.{IsHere}
 use Rattle.cluster_core.proofs.OneNode.{first_owners-any}

@@ -1,6 +1,6 @@
 -- What the next round of a call is, where one node has the one segment.
 use Rattle.std.specs.Prelude.{ℕ, ◌+◌, Bool, not, nat_lt, ◌&&◌, length, is_none}
-use Rattle.grid_event.specs.declared.event.Ask.{Ask}
+use Rattle.grid_event.specs.declared.call_events.Ask.{Ask}
 use Rattle.fixed_topology.specs.State.{Call, State}
 use Rattle.fixed_topology.specs.Calls.{has_open, is_complete}
 

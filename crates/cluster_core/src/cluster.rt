@@ -7,7 +7,7 @@ ghost use Rattle.grid_event.specs.Configs.{is_config, is_up_to};
 ghost use Rattle.cluster_core.specs.Served.{IsOne, is_served};
 ghost use Rattle.fixed_topology.specs.State.{call_of, start, unit_of};
 ghost use Rattle.fixed_topology.specs.State as states;
-ghost use Rattle.fixed_topology.specs.Calls.{can_go_on, can_invoke, has_open, invoked, is_complete, is_request};
+ghost use Rattle.fixed_topology.specs.Calls.{can_go_on, can_invoke, has_open, invoked, is_complete, is_count, is_request};
 ghost use Rattle.fixed_topology.specs.Writes.{can_write, is_deadline, is_of_kind, written};
 
 mod answers;
@@ -21,7 +21,9 @@ use crate::matches::is_of_kind;
 use crate::unit::Unit;
 use grid_base::limits::{LAST_CALL, LONGEST_LIFESPAN, MOST_BATCH, MOST_ROUNDS};
 use grid_base::{CallId, Key, NoMemory, Stamped, UnitId};
-use grid_event::{Config, Guarantee, InvokeEvent, Partition, Request, ValueKind, WriteEvent};
+use grid_event::{
+    Config, End, Guarantee, InvokeEvent, Partition, Pipeline, Request, ValueKind, WriteEvent,
+};
 use std::alloc::Global;
 use std::collections::BTreeMap;
 use std::marker::Model;
@@ -39,13 +41,14 @@ pub struct Core {
 impl Model for Core {
     ghost use Rattle.std.specs.FinMap as map_of;
     ghost use Rattle.std.specs.Coded.{codes, coded_ℕ};
+    ghost use Rattle.pipeline_expr.specs.contracts.expr.Expr as exprs;
     ghost use Rattle.std.specs.Ordering.{nat_cmp};
     ghost use Rattle.fixed_topology.specs.Cells.{cell_cmp};
     ghost use Rattle.fixed_topology.specs.State.{State};
 
     ghost Value = { State };
 
-    ghost coded = { Prim.hlevel (codes, map_of.code) };
+    ghost coded = { Prim.hlevel (codes, map_of.code, exprs.the_row.coded) };
 
     ghost use Rattle.cluster_core.specs.Insides.{state_of, IsCore};
 
@@ -165,7 +168,7 @@ impl Core {
         ensures err { OnErr result (self.new ≡ self.old) }
     {
         self.calls
-            .insert(invoke.call.number(), Call::new(invoke.request))?;
+            .insert(invoke.call.number(), Call::new(&invoke.request))?;
         Ok(())
     }
 }
@@ -211,7 +214,8 @@ fn is_invocation(invoke: &InvokeEvent) -> bool
     is_request(&invoke.request)
 }
 
-/// Whether the request is one for exactly once, with its numbers in their limits.
+/// Whether the request is one for exactly once, with its numbers in their limits, that counts the
+/// entries.
 fn is_request(request: &Request) -> bool
     ensures { result ≡ is_request request.now }
 {
@@ -224,5 +228,21 @@ fn is_request(request: &Request) -> bool
     if MOST_ROUNDS < request.rounds {
         return false;
     }
-    1 <= request.batch && request.batch <= MOST_BATCH
+    if request.batch < 1 {
+        return false;
+    }
+    if MOST_BATCH < request.batch {
+        return false;
+    }
+    is_count(&request.pipeline)
+}
+
+/// Whether the pipeline has no operation, and the end that counts.
+fn is_count(pipeline: &Pipeline) -> bool
+    ensures { result ≡ is_count pipeline.now }
+{
+    match pipeline.ops.as_slice() {
+        [] => matches!(pipeline.end, End::Count),
+        [_, ..] => false,
+    }
 }

@@ -10,6 +10,7 @@ use grid_event::{
     Answer, Command, Config, End, Event, Guarantee, Outcome, Partition, Pipeline, Request,
     ValueKind,
 };
+use sqlite_items::Items;
 use std::alloc::Global;
 use std::test::Fail;
 
@@ -40,7 +41,7 @@ fn put(alloc: Global, key: &[u8]) -> Result<Command, Fail> {
 }
 
 /// The call 1, which counts in batches of two.
-fn call() -> Command {
+fn call(alloc: Global) -> Command {
     Command::Call {
         by: SessionId::new(0),
         call: CallId::new(1),
@@ -49,7 +50,10 @@ fn call() -> Command {
             guarantee: Guarantee::Exact,
             rounds: 1,
             batch: 2,
-            pipeline: Pipeline { end: End::Count },
+            pipeline: Pipeline {
+                ops: Items::new(alloc),
+                end: End::Count,
+            },
         },
     }
 }
@@ -63,9 +67,11 @@ fn told(event: &Event) -> (&'static str, u64) {
         Event::Begin { .. } => ("begin", 0),
         Event::Scan(scan) => ("scan", scan.get().batch.entries.len() as u64),
         Event::Done { .. } => ("done", 0),
-        Event::Answer(answer) => match answer.get().outcome {
-            Outcome::Value(Answer::Count(count)) => ("answer", count),
+        Event::Answer(answer) => match &answer.get().outcome {
+            Outcome::Value(Answer::Count(count)) => ("answer", *count),
+            _ => ("answer", 0),
         },
+        _ => ("other", 0),
     }
 }
 
@@ -90,7 +96,7 @@ fn a_call_counts_three_keys_in_two_scans(rt: HostRuntime) -> Result<(), Fail> {
     for key in [b"b", b"c", b"a"] {
         assert_eq!(rt; step(alloc, &mut core, &put(alloc, key)?)?, ("write", 0));
     }
-    assert_eq!(rt; step(alloc, &mut core, &call())?, ("invoke", 0));
+    assert_eq!(rt; step(alloc, &mut core, &call(alloc))?, ("invoke", 0));
     let drive = Command::Drive {
         call: CallId::new(1),
     };

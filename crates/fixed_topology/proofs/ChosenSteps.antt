@@ -2,6 +2,7 @@
 use Rattle.std.proofs.Common.{◌≡◌, ℕ, ◌+◌, Bool, true, false, List, [], ◌∷◌, Option, None, Some, refl, sym, ap, ◌∙◌, if◌then◌else◌, unwrap_or}
 use Rattle.grid_event.specs.declared.command.Command.{Command}
 use Rattle.grid_event.specs.declared.command.Command.TheVariants.{Put, Call, Drive}
+use Rattle.grid_event.specs.declared.command.Command.TheVariants as commands
 use Rattle.grid_event.specs.declared.event.Event.{Event}
 use Rattle.grid_event.specs.declared.event.Event.TheVariants as events
 use Rattle.grid_event.specs.declared.outcome.Outcome.{Outcome}
@@ -74,3 +75,20 @@ chosen_may st (Drive call) =
     (or_else_may st (first_some (unit_event st) (open_units st call)) (round_event st call (call_of st call))
     (first_some_may st (unit_event st) (unit_may st) (open_units st call))
     (round_may st call (call_of st call)))
+chosen_may st (commands.Erase by_ node key) = none_may st
+chosen_may st (commands.Tick ticks) = none_may st
+chosen_may st (commands.Join node) = none_may st
+chosen_may st (commands.Depart node) = none_may st
+chosen_may st commands.Announce = none_may st
+chosen_may st (commands.Install node) = none_may st
+chosen_may st (commands.Copy receiver segment) = none_may st
+chosen_may st (commands.Land receiver segment) = none_may st
+chosen_may st (commands.Round call) = none_may st
+chosen_may st (commands.Begin call segment) = none_may st
+chosen_may st (commands.Scan call segment) = none_may st
+chosen_may st (commands.Fetch call segment) = none_may st
+chosen_may st (commands.Take call segment) = none_may st
+chosen_may st (commands.Done call segment) = none_may st
+chosen_may st (commands.Answer call) = none_may st
+chosen_may st commands.Advance = none_may st
+chosen_may st (commands.Serve node) = none_may st

@@ -1,28 +1,20 @@
 -- How a call is answered.
-use Rattle.std.specs.Prelude.{ℕ, ◌==◌, Bool, false, ◌&&◌, if◌then◌else◌, List, length, filter, Option, None, Some}
+use Rattle.std.specs.Prelude.{ℕ, ◌==◌, Bool, true, false, ◌&&◌, if◌then◌else◌, List, length, filter, Option, None, Some}
 use Rattle.std.specs.List.{flat_map}
 use Rattle.std.specs.FinMap as map_of
-use Rattle.std.specs.Ordering.{nat_cmp}
+use Rattle.std.specs.Ordering.{nat_cmp, int_eq}
+use Rattle.std.specs.Cmp.Lexicographic.{pointwise}
+use Rattle.grid_base.specs.Datum.{same_datum, same_item}
 use Rattle.grid_base.specs.declared.entry.Entry.{Entry}
-use Rattle.grid_event.specs.declared.event.AnswerEvent.{AnswerEvent}
-use Rattle.grid_event.specs.declared.outcome.Answer.{Answer}
-use Rattle.grid_event.specs.declared.outcome.Answer.TheVariants.{Count}
+use Rattle.grid_event.specs.declared.call_events.AnswerEvent.{AnswerEvent}
 use Rattle.grid_event.specs.declared.outcome.Outcome.{Outcome}
-use Rattle.grid_event.specs.declared.outcome.Outcome.TheVariants.{Value}
-use Rattle.grid_event.specs.declared.pipeline.End.{End}
-use Rattle.grid_event.specs.declared.pipeline.End.TheVariants as ends
-use Rattle.grid_event.specs.declared.pipeline.Pipeline.{Pipeline}
+use Rattle.grid_event.specs.declared.outcome.Outcome.TheVariants.{Value, Ended, Again, SegmentLost, OriginatorLeft}
+use Rattle.pipeline_expr.specs.declared.answer.Answer.{Answer}
+use Rattle.pipeline_expr.specs.declared.answer.Answer.TheVariants as answers
+use Rattle.pipeline_eval.specs.Pipes.{pipe}
 use Rattle.fixed_topology.specs.State.{Call, State, call_of, is_ended}
 use Rattle.fixed_topology.specs.Owners.{segments_of}
 use Rattle.fixed_topology.specs.Calls.{can_go_on, incomplete}
-
--- what the end of a pipeline makes of a list of entries
-abbrev pub end_of : End → List Entry → Answer
-end_of ends.Count entries = Count (length entries)
-
--- the plain pipeline over a list of entries
-abbrev pub pipe : Pipeline → List Entry → Answer
-pipe pipeline entries = end_of pipeline.end entries
 
 -- the evidence of a call: segments ascending, of each the entries that its ended unit read
 abbrev pub evidence : State → ℕ → List Entry
@@ -38,9 +30,23 @@ abbrev pub outcome_of : State → ℕ → Call → Option Outcome
 outcome_of st number call =
     if length (incomplete st number) == 0 then Some (Value (pipe call.request.pipeline (evidence st number))) else None
 
+-- two answers of pipelines are the same
+abbrev pub same_answer : Answer → Answer → Bool
+same_answer (answers.Count m) (answers.Count n) = m == n
+same_answer (answers.Sum m) (answers.Sum n) = int_eq m n
+same_answer (answers.Best None) (answers.Best None) = true
+same_answer (answers.Best (Some a)) (answers.Best (Some b)) = same_datum a b
+same_answer (answers.List xs) (answers.List ys) = pointwise same_item xs ys
+same_answer _ _ = false
+
 -- two outcomes are the same
 abbrev pub same_outcome : Outcome → Outcome → Bool
-same_outcome (Value (Count m)) (Value (Count n)) = m == n
+same_outcome (Value a) (Value b) = same_answer a b
+same_outcome Ended Ended = true
+same_outcome (Again m s) (Again n t) = (m == n) && (s == t)
+same_outcome (SegmentLost s) (SegmentLost t) = s == t
+same_outcome OriginatorLeft OriginatorLeft = true
+same_outcome _ _ = false
 
 abbrev pub is_that : Outcome → Option Outcome → Bool
 is_that outcome None = false

@@ -5,12 +5,16 @@ use Rattle.std.specs.FinMap as map_of
 use Rattle.std.specs.Ordering.{nat_cmp}
 use Rattle.grid_base.specs.declared.limits.TheConstants.{LAST_CALL, MOST_BATCH, MOST_ROUNDS}
 use Rattle.grid_event.specs.Configs.{is_up_to}
-use Rattle.grid_event.specs.declared.event.Ask.{Ask}
-use Rattle.grid_event.specs.declared.event.InvokeEvent.{InvokeEvent}
-use Rattle.grid_event.specs.declared.event.RoundEvent.{RoundEvent}
+use Rattle.grid_event.specs.declared.call_events.Ask.{Ask}
+use Rattle.grid_event.specs.declared.call_events.InvokeEvent.{InvokeEvent}
+use Rattle.grid_event.specs.declared.call_events.RoundEvent.{RoundEvent}
 use Rattle.delivery_mode.specs.declared.guarantee.Guarantee.{Guarantee}
 use Rattle.delivery_mode.specs.declared.guarantee.Guarantee.TheVariants.{Exact, AtLeast, AtMost}
 use Rattle.grid_event.specs.declared.request.Request.{Request}
+use Rattle.pipeline_expr.specs.declared.end.End.{End}
+use Rattle.pipeline_expr.specs.declared.end.End.TheVariants as ends
+use Rattle.pipeline_expr.specs.declared.op.Op.{Op}
+use Rattle.pipeline_expr.specs.declared.pipeline.Pipeline.{Pipeline}
 use Rattle.fixed_topology.specs.State.{Asked, Call, State, Unit, call_of, is_ended, is_open}
 use Rattle.fixed_topology.specs.Owners.{first_reader, installed_id, is_live, segments_of}
 use Rattle.fixed_topology.specs.Writes.{has_reader}
@@ -20,12 +24,25 @@ is_exact Exact = true
 is_exact AtLeast = false
 is_exact AtMost = false
 
--- the numbers of a request are in their limits
+abbrev pub is_nothing : List Op → Bool
+is_nothing [] = true
+is_nothing (op ∷ ops) = false
+
+abbrev pub is_counting : End → Bool
+is_counting ends.Count = true
+is_counting _ = false
+
+-- the pipeline counts the entries: it has no operation, and the end that counts
+abbrev pub is_count : Pipeline → Bool
+is_count pipeline = is_nothing pipeline.ops && is_counting pipeline.end
+
+-- the request is for exactly once, its numbers are in their limits, and it counts the entries
 abbrev pub is_request : Request → Bool
 is_request request =
-    is_exact request.guarantee && (is_up_to MOST_ROUNDS request.rounds && is_up_to MOST_BATCH request.batch)
+    is_exact request.guarantee
+    && (is_up_to MOST_ROUNDS request.rounds && (is_up_to MOST_BATCH request.batch && is_count request.pipeline))
 
--- the originator is live, the call's number is new and in its limits, and so are the request's numbers
+-- the originator is live, the call's number is new and in its limits, and its request is one of this cluster
 unfoldable pub can_invoke : State → InvokeEvent → Bool
 can_invoke st i =
     is_live st i.node

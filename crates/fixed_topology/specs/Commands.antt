@@ -70,7 +70,7 @@ round_event st number (Some call) =
     (events.Round (record { call = number; id = installed_id st call.originator; asks = asks_of st number call }))
 
 -- a write as said, which stands until the clock has gone on by its lifespan; a call as said; of a call the
--- first that there is: its answer, an event of an open unit by ascending segment, a round
+-- first that there is: its answer, an event of an open unit by ascending segment, a round; every other command has none
 abbrev pub chosen : State → Command → Option Event
 chosen st (Put by_ node key datum lifespan) =
     if_allowed st
@@ -81,3 +81,4 @@ chosen st (Call by_ call node request) =
 chosen st (Drive call) =
     or_else (answer_event st call (call_of st call))
     (or_else (first_some (unit_event st) (open_units st call)) (round_event st call (call_of st call)))
+chosen st _ = None

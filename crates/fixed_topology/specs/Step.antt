@@ -10,7 +10,8 @@ use Rattle.fixed_topology.specs.Calls.{can_invoke, invoked, can_round, rounded}
 use Rattle.fixed_topology.specs.Units.{can_begin, begun, can_scan, scanned, can_end, ended}
 use Rattle.fixed_topology.specs.Answers.{can_answer, answered}
 
--- the event may happen now
+-- the event may happen now; what changes the topology, lets the clock go on, erases, copies, or hands entries on
+-- one after another, has no step here
 abbrev pub allowed : State → Event → Bool
 allowed st (Write w) = can_write st w
 allowed st (Invoke i) = can_invoke st i
@@ -19,8 +20,9 @@ allowed st (Begin unit runs) = can_begin st unit runs
 allowed st (Scan s) = can_scan st s
 allowed st (Done unit) = can_end st unit
 allowed st (Answer a) = can_answer st a
+allowed st _ = false
 
--- what the event makes of the cluster
+-- what the event makes of the cluster, where it may happen
 abbrev pub changed : State → Event → State
 changed st (Write w) = written st w
 changed st (Invoke i) = invoked st i
@@ -29,6 +31,7 @@ changed st (Begin unit runs) = begun st unit
 changed st (Scan s) = scanned st s
 changed st (Done unit) = ended st unit
 changed st (Answer a) = answered st a
+changed st _ = st
 
 -- the cluster after the event, or nothing where it may not happen
 abbrev pub after : State → Event → Option State

@@ -5,7 +5,7 @@ use Rattle.grid_base.specs.declared.limits.TheConstants.{MOST_READ}
 use Rattle.grid_base.specs.declared.entry.Entry.{Entry}
 use Rattle.grid_base.specs.Portion.{Portion}
 use Rattle.fixed_topology.specs.Same.{same_batch}
-use Rattle.grid_event.specs.declared.event.ScanEvent.{ScanEvent}
+use Rattle.grid_event.specs.declared.unit_events.ScanEvent.{ScanEvent}
 use Rattle.fixed_topology.specs.Cells.{part_of}
 use Rattle.fixed_topology.specs.State.{Call, Ended, Running, State, Unit, call_of, is_asked, is_running, unit_of}
 use Rattle.fixed_topology.specs.Owners.{installed_id, readers}

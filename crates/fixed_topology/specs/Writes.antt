@@ -4,9 +4,9 @@ use Rattle.std.specs.List.{list_any}
 use Rattle.grid_base.specs.declared.limits.TheConstants.{LONGEST_LIFESPAN}
 use Rattle.grid_base.specs.declared.datum.Datum.{Datum}
 use Rattle.grid_base.specs.declared.datum.Datum.TheVariants as data_of
-use Rattle.grid_event.specs.declared.event.WriteEvent.{WriteEvent}
-use Rattle.grid_event.specs.declared.value_kind.ValueKind.{ValueKind}
-use Rattle.grid_event.specs.declared.value_kind.ValueKind.TheVariants as kinds
+use Rattle.grid_event.specs.declared.store_events.WriteEvent.{WriteEvent}
+use Rattle.pipeline_expr.specs.declared.kind.ValueKind.{ValueKind}
+use Rattle.pipeline_expr.specs.declared.kind.ValueKind.TheVariants as kinds
 use Rattle.fixed_topology.specs.Cells.{put_at}
 use Rattle.fixed_topology.specs.State.{State}
 use Rattle.fixed_topology.specs.Owners.{is_live, readers, segment_of, writers}

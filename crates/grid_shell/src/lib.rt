@@ -1,11 +1,18 @@
 //! The top call: words, a source and a sink in, a status and a journal out.
 #![tactic(auto)]
 
+mod asks;
 mod plain;
+mod runs;
+mod served;
+mod sources;
 mod status;
 #[cfg(test)]
 mod tests;
 mod texts;
+mod words;
 
+pub use asks::{Asked, Form};
 pub use plain::run_plain;
 pub use status::Status;
+pub use words::asked;

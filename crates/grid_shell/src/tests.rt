@@ -1,6 +1,6 @@
 //! Worked runs from their bytes to their reports, and the texts of each refusal.
 
-use crate::{Status, run_plain};
+use crate::{Asked, Form, Status, asked, run_plain};
 use grid_base::{Bytes, Text};
 use grid_event::Journal;
 use grid_io::{Calls, MemSink, MemSource};
@@ -8,10 +8,10 @@ use itoa::Buffer;
 use std::alloc::Global;
 use std::test::Fail;
 
-/// So many times the same word.
-fn words(alloc: Global, count: usize, word: &[u8]) -> Result<Vec<Text>, Fail> {
+/// These words.
+fn words(alloc: Global, list: &[&[u8]]) -> Result<Vec<Text>, Fail> {
     let mut words = Vec::new(alloc);
-    for _ in 0..count {
+    for word in list {
         words.push(Text::new(alloc, word)?)?;
     }
     Ok(words)
@@ -132,6 +132,23 @@ grid nodes 1 segments 1 owners 1 partition plain values int chunk 2
 end 8
 ";
 
+const FILLED_BRIEF: &[u8] = b"\
+grid nodes 1 segments 1 owners 1 partition plain values int chunk 2
+call 1 value count 2
+nodes 0
+topology NO_REBALANCE 0
+keys 2
+end
+";
+
+const FILLED_JSON: &[u8] = b"\
+{\"calls\":[{\"call\":1,\"outcome\":\"value count 2\"}],\"keys\":2,\"nodes\":[0],\"topology\":\"NO_REBALANCE 0\"}
+";
+
+const USAGE: &[u8] = b"\
+usage: grid step | grid live [--workers N] | grid gen SEED [--keys N] [--steps N]; each with [--form full|brief|json]
+";
+
 /// A script of the settings and these lines.
 fn script(alloc: Global, lines: &[u8]) -> Result<Bytes, Fail> {
     let mut script = bytes(alloc, SETTINGS)?;
@@ -139,42 +156,19 @@ fn script(alloc: Global, lines: &[u8]) -> Result<Bytes, Fail> {
     Ok(script)
 }
 
+/// What the run of these lines with the words `step` and `form` ends with.
+fn told(alloc: Global, form: &[u8], lines: &[u8]) -> Result<End, Fail> {
+    let words = words(alloc, &[b"step".as_slice(), form])?;
+    run(alloc, words.as_slice(), script(alloc, lines)?, 0, 0)
+}
+
 #[test]
-fn runs_and_faults(rt: HostRuntime) -> Result<(), Fail> {
+fn reports(rt: HostRuntime) -> Result<(), Fail> {
     let alloc = rt.alloc();
-    let step = words(alloc, 1, b"step")?;
-    let front = &EMPTY_REPORT[..40];
-    let rows = [
-        (EMPTY, 0, 0, Status::Done, EMPTY_REPORT, 6),
-        (FILLED, 0, 0, Status::Done, FILLED_REPORT, 8),
-        (EMPTY, 2, 0, Status::ReadFault, b"".as_slice(), 0),
-        (EMPTY, 0, 2, Status::WriteFault, front, 6),
-        (
-            b"finish 1\n".as_slice(),
-            0,
-            0,
-            Status::ScriptRefused,
-            b"refused 0 NotYet\n".as_slice(),
-            0,
-        ),
-        (
-            b"finish 1\n".as_slice(),
-            0,
-            1,
-            Status::ScriptRefused,
-            b"".as_slice(),
-            0,
-        ),
-    ];
-    for (lines, read_fails, write_fails, status, written, events) in rows {
-        let end = run(
-            alloc,
-            step.as_slice(),
-            script(alloc, lines)?,
-            read_fails,
-            write_fails,
-        )?;
-        assert_eq!(rt; end.status, status);
+    let rows = [(EMPTY, EMPTY_REPORT, 6), (FILLED, FILLED_REPORT, 8)];
+    for (lines, written, events) in rows {
+        let end = told(alloc, b"--form=full", lines)?;
+        assert_eq!(rt; end.status, Status::Done);
         assert_eq!(rt; end.written.as_slice(), written);
         assert_eq!(rt; end.events, events);
     }
@@ -182,24 +176,64 @@ fn runs_and_faults(rt: HostRuntime) -> Result<(), Fail> {
 }
 
 #[test]
-fn words_and_limits(rt: HostRuntime) -> Result<(), Fail> {
+fn briefs(rt: HostRuntime) -> Result<(), Fail> {
+    let alloc = rt.alloc();
+    let end = told(alloc, b"--form=brief", FILLED)?;
+    assert_eq!(rt; end.status, Status::Done);
+    assert_eq!(rt; end.written.as_slice(), FILLED_BRIEF);
+    let end = told(alloc, b"--form=json", FILLED)?;
+    assert_eq!(rt; end.status, Status::Done);
+    assert_eq!(rt; end.written.as_slice(), FILLED_JSON);
+    Ok(())
+}
+
+#[test]
+fn faults(rt: HostRuntime) -> Result<(), Fail> {
+    let alloc = rt.alloc();
+    let step = words(alloc, &[b"step".as_slice()])?;
+    let end = run(alloc, step.as_slice(), script(alloc, EMPTY)?, 2, 0)?;
+    assert_eq!(rt; end.status, Status::ReadFault);
+    assert_eq!(rt; end.written.as_slice(), b"".as_slice());
+    assert_eq!(rt; end.events, 0);
+    let end = run(alloc, step.as_slice(), script(alloc, EMPTY)?, 0, 2)?;
+    assert_eq!(rt; end.status, Status::WriteFault);
+    assert_eq!(rt; end.written.as_slice(), &EMPTY_REPORT[..40]);
+    assert_eq!(rt; end.events, 6);
+    Ok(())
+}
+
+#[test]
+fn refusals(rt: HostRuntime) -> Result<(), Fail> {
     let alloc = rt.alloc();
     let rows = [
-        (0, b"".as_slice()),
-        (1, b"".as_slice()),
-        (1, b"live".as_slice()),
-        (1, b"step ".as_slice()),
-        (2, b"step".as_slice()),
+        (
+            b"call 1 0 exact 1 10 filter value | count\n".as_slice(),
+            b"refused 8 Mistyped\n".as_slice(),
+        ),
+        (b"call 1 0 exact 1 10 count \n", b"refused 8 Syntax\n"),
+        (b"call 1 0 exa", b"refused 8 Syntax\n"),
+        (b"finish 1\n", b"refused 8 CallUnknown\n"),
+        (b"put 0 a 1\njoin 1\n", b"refused 0 NotYet\n"),
+        (b"call 1 0 exact 1 10 each\n", b"refused 0 NotYet\n"),
+        (b"call 1 0 atmost 1 10 count\n", b"refused 0 NotYet\n"),
     ];
-    for (count, word) in rows {
-        let words = words(alloc, count, word)?;
-        let end = run(alloc, words.as_slice(), script(alloc, EMPTY)?, 0, 0)?;
-        assert_eq!(rt; end.status, Status::Usage);
-        assert_eq!(rt; end.written.as_slice(), b"usage: grid step\n".as_slice());
+    for (lines, written) in rows {
+        let end = told(alloc, b"--form=full", lines)?;
+        assert_eq!(rt; end.status, Status::ScriptRefused);
+        assert_eq!(rt; end.written.as_slice(), written);
         assert_eq!(rt; end.events, 0);
     }
+    Ok(())
+}
 
-    let step = words(alloc, 1, b"step")?;
+#[test]
+fn sources_without_a_script(rt: HostRuntime) -> Result<(), Fail> {
+    let alloc = rt.alloc();
+    let step = words(alloc, &[b"step".as_slice()])?;
+    let end = run(alloc, step.as_slice(), bytes(alloc, b"")?, 0, 0)?;
+    assert_eq!(rt; end.status, Status::ScriptRefused);
+    assert_eq!(rt; end.written.as_slice(), b"refused 1 Syntax\n".as_slice());
+
     let mut long = Bytes::new(alloc);
     for _ in 0..4_194_305 {
         long.push(b'\n')?;
@@ -207,13 +241,97 @@ fn words_and_limits(rt: HostRuntime) -> Result<(), Fail> {
     let end = run(alloc, step.as_slice(), long, 0, 0)?;
     assert_eq!(rt; end.status, Status::ScriptRefused);
     assert_eq!(rt; end.written.as_slice(), b"refused 0 TooLong\n".as_slice());
+    Ok(())
+}
 
+#[test]
+fn a_full_journal(rt: HostRuntime) -> Result<(), Fail> {
     // Each call reads 1,000 entries, and a journal holds 2,000,000 entries and items.
+    let alloc = rt.alloc();
+    let step = words(alloc, &[b"step".as_slice()])?;
     let mut full = script(alloc, b"")?;
     add_lines(&mut full, 1000, b"put 0 k", b" 1\n", false)?;
     add_lines(&mut full, 2100, b"call ", b" 0 exact 1 1000 count\n", true)?;
     let end = run(alloc, step.as_slice(), full, 0, 0)?;
     assert_eq!(rt; end.status, Status::Full);
     assert_eq!(rt; end.written.as_slice(), b"full 5009\n".as_slice());
+    Ok(())
+}
+
+#[test]
+fn a_generated_script_can_not_be_run_yet(rt: HostRuntime) -> Result<(), Fail> {
+    let alloc = rt.alloc();
+    let words = words(
+        alloc,
+        &[b"gen".as_slice(), b"7", b"--steps=0", b"--keys", b"1"],
+    )?;
+    let end = run(alloc, words.as_slice(), bytes(alloc, b"")?, 1, 0)?;
+    assert_eq!(rt; end.status, Status::ScriptRefused);
+    assert_eq!(rt; end.written.as_slice(), b"refused 0 NotYet\n".as_slice());
+    assert_eq!(rt; end.events, 0);
+    Ok(())
+}
+
+/// Such words are answered by the usage line.
+fn is_usage(alloc: Global, list: &[&[u8]]) -> Result<bool, Fail> {
+    let words = words(alloc, list)?;
+    let end = run(alloc, words.as_slice(), script(alloc, EMPTY)?, 0, 0)?;
+    Ok(end.status == Status::Usage && end.written.as_slice() == USAGE && end.events == 0)
+}
+
+#[test]
+fn other_words(rt: HostRuntime) -> Result<(), Fail> {
+    let alloc = rt.alloc();
+    assert!(rt; is_usage(alloc, &[])?);
+    assert!(rt; is_usage(alloc, &[b"".as_slice()])?);
+    assert!(rt; is_usage(alloc, &[b"step ".as_slice()])?);
+    assert!(rt; is_usage(alloc, &[b"step".as_slice(), b"--help"])?);
+    assert!(rt; is_usage(alloc, &[b"step".as_slice(), b"--form"])?);
+    assert!(rt; is_usage(alloc, &[b"step".as_slice(), b"--form="])?);
+    assert!(rt; is_usage(alloc, &[b"step".as_slice(), b"--keys=1"])?);
+    assert!(rt; is_usage(alloc, &[b"live".as_slice()])?);
+    Ok(())
+}
+
+#[test]
+fn words_with_options_astray(rt: HostRuntime) -> Result<(), Fail> {
+    let alloc = rt.alloc();
+    let twice = [b"step".as_slice(), b"--form", b"full", b"--form=full"];
+    assert!(rt; is_usage(alloc, &twice)?);
+    assert!(rt; is_usage(alloc, &[b"gen".as_slice()])?);
+    assert!(rt; is_usage(alloc, &[b"gen".as_slice(), b"07"])?);
+    assert!(rt; is_usage(alloc, &[b"gen".as_slice(), b"1000000000"])?);
+    assert!(rt; is_usage(alloc, &[b"gen".as_slice(), b"1", b"--keys", b"0"])?);
+    assert!(rt; is_usage(alloc, &[b"gen".as_slice(), b"1", b"--steps=50001"])?);
+    Ok(())
+}
+
+#[test]
+fn asked_for(rt: HostRuntime) -> Result<(), Fail> {
+    let alloc = rt.alloc();
+    let step = words(alloc, &[b"step".as_slice()])?;
+    assert_eq!(rt;
+        asked(step.as_slice()),
+        Some(Asked::Step { form: Form::Full })
+    );
+    let live = words(
+        alloc,
+        &[b"live".as_slice(), b"--workers", b"8", b"--form=json"],
+    )?;
+    let form = Form::Json;
+    assert_eq!(rt;
+        asked(live.as_slice()),
+        Some(Asked::Live { form, workers: 8 })
+    );
+    let workers = words(alloc, &[b"live".as_slice(), b"--workers", b"9"])?;
+    assert_eq!(rt; asked(workers.as_slice()), None);
+    let seed = words(alloc, &[b"gen".as_slice(), b"0", b"--steps=0"])?;
+    let generated = Asked::Gen {
+        form: Form::Brief,
+        seed: 0,
+        keys: 10_000,
+        steps: 0,
+    };
+    assert_eq!(rt; asked(seed.as_slice()), Some(generated));
     Ok(())
 }

@@ -2,18 +2,19 @@
 use Rattle.std.proofs.Common.{◌≡◌, ℕ, zero, suc, ◌+◌, Bool, true, false, List, [], ◌∷◌, ◌++◌, Option, None, Some, is_some, refl, sym, ap, ◌∙◌, append_assoc, append-nil, if◌then◌else◌}
 use Rattle.std.specs.Prelude.{Result, Ok, Err, OnErr, OnOk}
 use Rattle.std.specs.Result.{is_err}
+use Rattle.grid_base.specs.declared.limits.TheConstants.{LAST_CALL}
 use Rattle.grid_event.specs.declared.command.Command.{Command}
-use Rattle.grid_event.specs.declared.command.Command.TheVariants.{Drive}
+use Rattle.grid_event.specs.declared.command.Command.TheVariants.{Advance, Drive}
 use Rattle.grid_event.specs.declared.event.Event.{Event}
 use Rattle.grid_event.specs.Histories.{History, passes_limit, with_event}
 use Rattle.grid_script.specs.declared.order.Order.{Order}
-use Rattle.grid_script.specs.declared.order.Order.TheVariants.{One, Finish}
+use Rattle.grid_script.specs.declared.order.Order.TheVariants.{One, Settle, Finish}
 use Rattle.grid_script.specs.declared.step_line.StepLine.{StepLine}
 use Rattle.fixed_topology.specs.Commands.{chosen}
 use Rattle.fixed_topology.specs.State.{State}
 use Rattle.fixed_topology.specs.Step.{changed}
 use Rattle.step_run.specs.Outcomes.{IsFront, LeavesAt, running}
-use Rattle.step_run.specs.StepRuns.{ENOUGH, Progress, after_lines, all_finished, by_event, done, going, noted, order_done, repeated, with_event_at}
+use Rattle.step_run.specs.StepRuns.{ENOUGH, Progress, after_lines, all_done, all_finished, by_event, done, ended, going, noted, order_done, repeated, settled, with_event_at}
 use Rattle.step_run.specs.declared.run_fault.RunFault.{RunFault}
 use Rattle.step_run.specs.declared.run_fault.RunFault.TheVariants.{Full, NoMemory}
 
@@ -72,10 +73,14 @@ repeated-grows zero line command run = same_front run.history
 repeated-grows (suc times) line command run =
     by_event-grows line (repeated times line command) (λ same. same) (repeated-grows times line command) (λ same. same_front same.history) (chosen run.state command) run
 
+all_done-grows : (line : ℕ) (command : Command) → Grows (all_done line command)
+all_done-grows line command run =
+    by_event-grows line (repeated ENOUGH line command) (noted line) (repeated-grows ENOUGH line command) (noted-grows line) (chosen run.state command) run
+
 pub order_done-grows : (line : ℕ) (order : Order) → Grows (order_done line order)
 order_done-grows line (One command) run = by_event-grows line (λ same. same) (noted line) (λ same. same_front same.history) (noted-grows line) (chosen run.state command) run
-order_done-grows line (Finish call) run =
-    by_event-grows line (repeated ENOUGH line (Drive call)) (noted line) (repeated-grows ENOUGH line (Drive call)) (noted-grows line) (chosen run.state (Drive call)) run
+order_done-grows line Settle run = all_done-grows line Advance run
+order_done-grows line (Finish call) run = all_done-grows line (Drive call) run
 
 pub done-grows : (line : StepLine) → Grows (done line)
 done-grows line run = order_done-grows line.line line.order run
@@ -99,6 +104,18 @@ unfolding all_finished
 all_finished-stays zero call run stopped = refl
 all_finished-stays (suc calls) call run stopped =
     ap (all_finished calls (call + 1)) (going-stays (repeated ENOUGH 0 (Drive call)) run stopped) ∙ all_finished-stays calls (call + 1) run stopped
+
+pub settled-grows : Grows settled
+settled-grows = going-grows (repeated ENOUGH 0 Advance) (repeated-grows ENOUGH 0 Advance)
+
+pub settled-stays : Stays settled
+settled-stays = going-stays (repeated ENOUGH 0 Advance)
+
+pub ended-grows : Grows ended
+ended-grows run = longer_front (all_finished-grows LAST_CALL 1 run) (settled-grows (all_finished LAST_CALL 1 run))
+
+pub ended-stays : Stays ended
+ended-stays run stopped = ap settled (all_finished-stays LAST_CALL 1 run stopped) ∙ settled-stays run stopped
 
 -- a run that was left for a fault is so left whatever was to come
 pub leaves_on : (fault : RunFault) (st : State) (h : History) (target : Progress) (next : Progress → Progress) → Stays next → Grows next →

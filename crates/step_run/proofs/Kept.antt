@@ -3,20 +3,20 @@ use Rattle.std.proofs.Common.{◌≡◌, ℕ, zero, suc, ◌+◌, Bool, true, fa
 use Rattle.std.specs.Prelude.{Result, Ok, Err, OnOk}
 use Rattle.grid_base.specs.declared.limits.TheConstants.{LAST_CALL}
 use Rattle.grid_event.specs.declared.command.Command.{Command}
-use Rattle.grid_event.specs.declared.command.Command.TheVariants.{Drive}
+use Rattle.grid_event.specs.declared.command.Command.TheVariants.{Advance, Drive}
 use Rattle.grid_event.specs.declared.config.Config.{Config}
 use Rattle.grid_event.specs.declared.event.Event.{Event}
 use Rattle.grid_event.specs.Histories.{History, blank, passes_limit, with_event}
-use Rattle.grid_script.specs.Scripts.{Script}
+use Rattle.grid_script.specs.Scripts.{Steps}
 use Rattle.grid_script.specs.declared.order.Order.{Order}
-use Rattle.grid_script.specs.declared.order.Order.TheVariants.{One, Finish}
+use Rattle.grid_script.specs.declared.order.Order.TheVariants.{One, Settle, Finish}
 use Rattle.grid_script.specs.declared.step_line.StepLine.{StepLine}
 use Rattle.fixed_topology.specs.Commands.{chosen}
 use Rattle.fixed_topology.specs.State.{State, start}
 use Rattle.fixed_topology.specs.Step.{allowed, changed, is_run, is_run_of, runs, state}
 use Rattle.fixed_topology.proofs.ChosenSteps.{MayHappen, chosen_may}
 use Rattle.step_run.specs.Outcomes.{IsFront, Leaves, LeavesRun, running}
-use Rattle.step_run.specs.StepRuns.{ENOUGH, Progress, after_lines, all_finished, begin, by_event, done, going, noted, order_done, repeated, run_of, with_event_at}
+use Rattle.step_run.specs.StepRuns.{ENOUGH, Progress, after_lines, all_done, all_finished, begin, by_event, done, ended, going, noted, order_done, repeated, run_of, with_event_at}
 use Rattle.step_run.specs.declared.run_fault.RunFault.{RunFault}
 use Rattle.step_run.proofs.Fronts.{same_running}
 use Rattle.step_run.specs.declared.run_fault.RunFault.TheVariants.{Full, NoMemory}
@@ -87,12 +87,16 @@ repeated-keeps config (suc times) line command run kept =
     by_event-keeps config line (repeated times line command) (λ same. same) (repeated-keeps config times line command) (same-keeps config)
     (chosen run.state command) run (chosen_may run.state command) kept
 
+all_done-keeps : (config : Config) (line : ℕ) (command : Command) → Keeps config (all_done line command)
+all_done-keeps config line command run kept =
+    by_event-keeps config line (repeated ENOUGH line command) (noted line) (repeated-keeps config ENOUGH line command) (noted-keeps config line)
+    (chosen run.state command) run (chosen_may run.state command) kept
+
 order_done-keeps : (config : Config) (line : ℕ) (order : Order) → Keeps config (order_done line order)
 order_done-keeps config line (One command) run kept =
     by_event-keeps config line (λ same. same) (noted line) (same-keeps config) (noted-keeps config line) (chosen run.state command) run (chosen_may run.state command) kept
-order_done-keeps config line (Finish call) run kept =
-    by_event-keeps config line (repeated ENOUGH line (Drive call)) (noted line) (repeated-keeps config ENOUGH line (Drive call)) (noted-keeps config line)
-    (chosen run.state (Drive call)) run (chosen_may run.state (Drive call)) kept
+order_done-keeps config line Settle run kept = all_done-keeps config line Advance run kept
+order_done-keeps config line (Finish call) run kept = all_done-keeps config line (Drive call) run kept
 
 after_lines-keeps : (config : Config) (lines : List StepLine) → Keeps config (after_lines lines)
 after_lines-keeps config [] run kept = kept
@@ -106,14 +110,19 @@ all_finished-keeps config (suc calls) call run kept =
     all_finished-keeps config calls (call + 1) (going (repeated ENOUGH 0 (Drive call)) run)
     (going-keeps config (repeated ENOUGH 0 (Drive call)) (repeated-keeps config ENOUGH 0 (Drive call)) run kept)
 
-run_of-kept : (script : Script) → IsKept script.config (run_of script)
+ended-keeps : (config : Config) → Keeps config ended
+ended-keeps config run kept =
+    going-keeps config (repeated ENOUGH 0 Advance) (repeated-keeps config ENOUGH 0 Advance) (all_finished LAST_CALL 1 run)
+    (all_finished-keeps config LAST_CALL 1 run kept)
+
+run_of-kept : (script : Steps) → IsKept script.config (run_of script)
 unfolding run_of
 run_of-kept script =
-    all_finished-keeps script.config LAST_CALL 1 (after_lines script.lines (begin script.config))
+    ended-keeps script.config (after_lines script.lines (begin script.config))
     (after_lines-keeps script.config script.lines (begin script.config) (record { settings = refl; steps = refl; cluster = refl }))
 
 -- the journal of a stepped run is a run of the cluster
-pub run_of-is_run : (script : Script) → is_run (run_of script).history ≡ true
+pub run_of-is_run : (script : Steps) → is_run (run_of script).history ≡ true
 run_of-is_run script =
     let kept = run_of-kept script in
     ap (λ (config : Option Config). is_run_of config (run_of script).history.events) kept.settings ∙ kept.steps
@@ -133,30 +142,30 @@ leaves_run (Err (Full line)) st h target left = (ap (λ (run : Progress). run.st
 leaves_run (Err NoMemory) st h target left = inr left
 
 -- whatever comes, the journal is a run
-pub left_is_run : {A : Type 0} (result : Result A RunFault) (h : History) (script : Script) → LeavesRun result h (run_of script) → is_run h ≡ true
+pub left_is_run : {A : Type 0} (result : Result A RunFault) (h : History) (script : Steps) → LeavesRun result h (run_of script) → is_run h ≡ true
 left_is_run (Ok value) h script left = ap is_run left.1 ∙ run_of-is_run script
 left_is_run (Err (Full line)) h script left = ap is_run left.1 ∙ run_of-is_run script
 left_is_run (Err NoMemory) h script (inl empty) = ap is_run empty
 left_is_run (Err NoMemory) h script (inr front) = front_is_run h (run_of script).history script.config (run_of-kept script).settings (run_of-is_run script) front
 
 -- the journal has the settings of the script
-pub run_of-settings : (script : Script) → (run_of script).history.config ≡ Some script.config
+pub run_of-settings : (script : Steps) → (run_of script).history.config ≡ Some script.config
 run_of-settings script = (run_of-kept script).settings
 
-pub settings_left : {A : Type 0} (result : Result A RunFault) (h : History) (script : Script) → LeavesRun result h (run_of script) →
+pub settings_left : {A : Type 0} (result : Result A RunFault) (h : History) (script : Steps) → LeavesRun result h (run_of script) →
     OnOk result (h.config ≡ Some script.config)
 settings_left (Ok value) h script left = ap (λ (history : History). history.config) left.1 ∙ run_of-settings script
 settings_left (Err fault) h script left = tt
 
--- the run is that of the lines and then of all calls
-pub run_of-parts : (script : Script) (run : Progress) → after_lines script.lines (begin script.config) ≡ run → run_of script ≡ all_finished LAST_CALL 1 run
+-- the run is that of the lines and then of what is left
+pub run_of-parts : (script : Steps) (run : Progress) → after_lines script.lines (begin script.config) ≡ run → run_of script ≡ ended run
 unfolding run_of
-run_of-parts script run e = ap (all_finished LAST_CALL 1) e
+run_of-parts script run e = ap ended e
 
 -- the lines begin with a new cluster and a journal that has its settings
-pub begun_with : (s script : Script) (core : State) (h : History) (lines : List StepLine) → s ≡ script → core ≡ start s.config →
+pub begun_with : (s script : Steps) (core : State) (h : History) (lines : List StepLine) → s ≡ script → core ≡ start s.config →
     h ≡ record blank { config = Some s.config } → lines ≡ s.lines → after_lines script.lines (begin script.config) ≡ after_lines lines (running core h)
 begun_with s script core h lines seen new started all =
-    ap (λ (script : Script). after_lines script.lines (begin script.config)) (sym seen)
+    ap (λ (script : Steps). after_lines script.lines (begin script.config)) (sym seen)
     ∙ ap (after_lines s.lines) (same_running (sym new) (sym started))
     ∙ ap (λ (ls : List StepLine). after_lines ls (running core h)) (sym all)

@@ -1,12 +1,13 @@
 -- A step of what is repeated, and the rest of it.
 use Rattle.std.proofs.Common.{◌≡◌, ℕ, zero, suc, ◌+◌, ◌-◌, ◌<◌, Bool, true, false, Option, None, Some, is_some, refl, sym, ap, subst, ◌∙◌, arith, if◌then◌else◌}
+use Rattle.std.specs.Prelude.{Result}
 use Rattle.grid_event.specs.declared.command.Command.{Command}
-use Rattle.grid_event.specs.declared.command.Command.TheVariants.{Drive}
+use Rattle.grid_event.specs.declared.command.Command.TheVariants.{Advance, Drive}
 use Rattle.grid_event.specs.declared.event.Event.{Event}
 use Rattle.grid_event.specs.Histories.{History, with_idle}
 use Rattle.fixed_topology.specs.Commands.{chosen}
 use Rattle.fixed_topology.specs.State.{State}
-use Rattle.step_run.specs.Outcomes.{LeavesAt, running}
+use Rattle.step_run.specs.Outcomes.{Leaves, LeavesAt, running}
 use Rattle.step_run.specs.StepRuns.{ENOUGH, Progress, all_finished, by_event, going, noted, repeated, with_event_at}
 use Rattle.step_run.specs.declared.run_fault.RunFault.{RunFault}
 use Rattle.step_run.specs.declared.run_fault.RunFault.TheVariants.{Full, NoMemory}
@@ -136,3 +137,8 @@ all_finished-next (suc calls) call st h more =
 pub all_finished-end : (call : ℕ) (run : Progress) → all_finished 0 call run ≡ run
 unfolding all_finished
 all_finished-end call run = refl
+
+-- what was left behind a part that went on is what the rest leaves
+pub leaves_from : {A : Type 0} (result : Result A RunFault) (st : State) (h : History) (run : Progress) (su : State) (i : History)
+    (next : Progress → Progress) → run ≡ running su i → Leaves result st h (next (running su i)) → Leaves result st h (next run)
+leaves_from result st h run su i next went left = subst (λ (target : Progress). Leaves result st h target) (ap next (sym went)) left

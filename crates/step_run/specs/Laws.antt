@@ -2,14 +2,14 @@
 use Rattle.std.specs.Prelude.{◌≡◌, ℕ, ◌≤◌, ◌⊎◌, true, length, None, is_some}
 use Rattle.grid_base.specs.declared.limits.TheConstants.{MOST_EVENTS}
 use Rattle.grid_event.specs.declared.command.Command.{Command}
-use Rattle.grid_script.specs.Scripts.{Script}
+use Rattle.grid_script.specs.Scripts.{Steps}
 use Rattle.fixed_topology.specs.Step.{is_run}
 use Rattle.fixed_topology.specs.Commands.{chosen}
 use Rattle.step_run.specs.StepRuns.{ENOUGH, Progress, repeated, run_of}
 
 -- the journal of a stepped run is a run of the cluster
 abbrev pub SteppedRunsAreRuns : Type 0
-SteppedRunsAreRuns = (script : Script) → is_run (run_of script).history ≡ true
+SteppedRunsAreRuns = (script : Steps) → is_run (run_of script).history ≡ true
 
 -- what is repeated ends by itself, or the journal is full
 abbrev pub RepeatingEnds : Type 0

@@ -3,12 +3,12 @@ use Rattle.std.specs.Prelude.{ℕ, zero, suc, ◌+◌, if◌then◌else◌, List
 use Rattle.grid_base.specs.declared.limits.TheConstants.{LAST_CALL, MOST_EVENTS}
 use Rattle.grid_event.specs.declared.config.Config.{Config}
 use Rattle.grid_event.specs.declared.command.Command.{Command}
-use Rattle.grid_event.specs.declared.command.Command.TheVariants.{Drive}
+use Rattle.grid_event.specs.declared.command.Command.TheVariants.{Advance, Drive}
 use Rattle.grid_event.specs.declared.event.Event.{Event}
 use Rattle.grid_event.specs.Histories.{History, blank, passes_limit, with_event, with_idle}
-use Rattle.grid_script.specs.Scripts.{Script}
+use Rattle.grid_script.specs.Scripts.{Steps}
 use Rattle.grid_script.specs.declared.order.Order.{Order}
-use Rattle.grid_script.specs.declared.order.Order.TheVariants.{One, Finish}
+use Rattle.grid_script.specs.declared.order.Order.TheVariants.{One, Settle, Finish}
 use Rattle.grid_script.specs.declared.step_line.StepLine.{StepLine}
 use Rattle.fixed_topology.specs.State.{State, start}
 use Rattle.fixed_topology.specs.Step.{changed}
@@ -54,11 +54,17 @@ repeated (suc times) line command run =
 abbrev pub ENOUGH : ℕ
 ENOUGH = MOST_EVENTS + 1
 
--- a line with one command, or one that drives a call to its answer; where its first command has no event it is idle
+-- a command that is repeated as long as it has an event; where it has none at first, its line is idle
+abbrev pub all_done : ℕ → Command → Progress → Progress
+all_done line command run =
+    by_event line (repeated ENOUGH line command) (noted line) (chosen run.state command) run
+
+-- a line with one command, one that advances until nothing is left to advance, or one that drives a call to its answer;
+-- where its first command has no event it is idle
 abbrev pub order_done : ℕ → Order → Progress → Progress
 order_done line (One command) run = by_event line (λ same. same) (noted line) (chosen run.state command) run
-order_done line (Finish call) run =
-    by_event line (repeated ENOUGH line (Drive call)) (noted line) (chosen run.state (Drive call)) run
+order_done line Settle run = all_done line Advance run
+order_done line (Finish call) run = all_done line (Drive call) run
 
 abbrev pub done : StepLine → Progress → Progress
 done line run = order_done line.line line.order run
@@ -74,6 +80,14 @@ unfoldable pub all_finished : ℕ → ℕ → Progress → Progress
 all_finished zero call run = run
 all_finished (suc calls) call run = all_finished calls (call + 1) (going (repeated ENOUGH 0 (Drive call)) run)
 
--- the stepped run: each line is done in turn, and then each call is finished
-unfoldable pub run_of : Script → Progress
-run_of script = all_finished LAST_CALL 1 (after_lines script.lines (begin script.config))
+-- the topology is settled, at line 0
+abbrev pub settled : Progress → Progress
+settled = going (repeated ENOUGH 0 Advance)
+
+-- what is done after the last line: each call is finished, and then the topology is settled
+abbrev pub ended : Progress → Progress
+ended run = settled (all_finished LAST_CALL 1 run)
+
+-- the stepped run: each line is done in turn, and then what is left is brought to its end
+unfoldable pub run_of : Steps → Progress
+run_of script = ended (after_lines script.lines (begin script.config))

@@ -3,7 +3,7 @@
 ghost use Rattle.std.specs.Prelude.{◌≡◌, IfOk, IsSome, is_some};
 ghost use Rattle.grid_base.specs.declared.limits.TheConstants.{LAST_CALL};
 ghost use Rattle.fixed_topology.specs.Commands.{chosen};
-ghost use Rattle.step_run.specs.StepRuns.{ENOUGH, after_lines, all_finished, by_event, done, noted, repeated};
+ghost use Rattle.step_run.specs.StepRuns.{after_lines, all_done, all_finished, by_event, done, ended, noted};
 ghost use Rattle.step_run.specs.Outcomes.{Leaves, running};
 
 use crate::repeats::repeat;
@@ -54,7 +54,7 @@ fn do_all(
     command: &Command,
 ) -> Result<(), RunFault>
     requires { IsSome journal.old.history.config }
-    ensures leaves { Leaves result core.new journal.new.history (by_event line (repeated ENOUGH line command.now) (noted line) (chosen core.old command.now) (running core.old journal.old.history)) }
+    ensures leaves { Leaves result core.new journal.new.history (all_done line command.now (running core.old journal.old.history)) }
     ensures config { journal.new.history.config ≡ journal.old.history.config }
 {
     match do_first(alloc, core, journal, line, command) {
@@ -80,6 +80,7 @@ pub fn do_line(
             Ok(_moved) => Ok(()),
             Err(fault) => Err(fault),
         },
+        Order::Settle => do_all(alloc, core, journal, line.line, &Command::Advance),
         Order::Finish(call) => {
             let command = Command::Drive { call: *call };
             do_all(alloc, core, journal, line.line, &command)
@@ -107,8 +108,21 @@ pub fn do_lines(
     Ok(())
 }
 
+/// What is left after the last line is brought to its end: each call is finished, and then the
+/// topology is settled.
+pub fn end_all(alloc: Global, core: &mut Core, journal: &mut Journal) -> Result<(), RunFault>
+    requires { IsSome journal.old.history.config }
+    ensures leaves { Leaves result core.new journal.new.history (ended (running core.old journal.old.history)) }
+    ensures config { journal.new.history.config ≡ journal.old.history.config }
+{
+    match finish_all(alloc, core, journal) {
+        Ok(()) => repeat(alloc, core, journal, 0, &Command::Advance),
+        Err(fault) => Err(fault),
+    }
+}
+
 /// Each call is driven to its answer, in the order of their numbers.
-pub fn finish_all(alloc: Global, core: &mut Core, journal: &mut Journal) -> Result<(), RunFault>
+fn finish_all(alloc: Global, core: &mut Core, journal: &mut Journal) -> Result<(), RunFault>
     requires { IsSome journal.old.history.config }
     ensures leaves { Leaves result core.new journal.new.history (all_finished LAST_CALL 1 (running core.old journal.old.history)) }
     ensures config { journal.new.history.config ≡ journal.old.history.config }

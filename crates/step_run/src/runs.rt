@@ -3,22 +3,25 @@
 ghost use Rattle.std.specs.Prelude.{◌≡◌, true, OnOk, Some};
 ghost use Rattle.grid_event.specs.Histories.{blank};
 ghost use Rattle.fixed_topology.specs.Step.{is_run};
+ghost use Rattle.cluster_core.specs.Served.{is_served};
 ghost use Rattle.step_run.specs.StepRuns.{run_of};
 ghost use Rattle.step_run.specs.Outcomes.{LeavesRun};
 
-use crate::lines::{do_lines, finish_all};
+use crate::lines::{do_lines, end_all};
 use crate::run_fault::RunFault;
 use cluster_core::Core;
 use grid_event::Journal;
 use grid_script::StepScript;
 use std::alloc::Global;
 
-/// Does every line of the script in turn, and then finishes each call. With Ok the journal is that
+/// Does every line of the script in turn, then finishes each call, and then settles the topology.
+/// The settings are ones that the core serves. With Ok the journal is that
 /// of the script's stepped run. Full comes exactly where that run stops for a full journal, at its
 /// line, and the journal then holds it; after want of memory the journal is empty or holds a front of
 /// that run. Whatever comes, the journal is a run of the cluster.
 pub fn run_steps(alloc: Global, script: &StepScript, journal: &mut Journal) -> Result<(), RunFault>
-    requires { journal.old.history ≡ blank }
+    requires blank { journal.old.history ≡ blank }
+    requires served { is_served script.now.config ≡ true }
     ensures leaves { LeavesRun result journal.new.history (run_of script.now) }
     ensures settings { OnOk result (journal.new.history.config ≡ Some script.now.config) }
     ensures run { is_run journal.new.history ≡ true }
@@ -29,7 +32,7 @@ pub fn run_steps(alloc: Global, script: &StepScript, journal: &mut Journal) -> R
     };
     journal.start(config);
     match do_lines(alloc, &mut core, journal, script.lines.as_slice()) {
-        Ok(()) => finish_all(alloc, &mut core, journal),
+        Ok(()) => end_all(alloc, &mut core, journal),
         Err(fault) => Err(fault),
     }
 }

@@ -1,9 +1,8 @@
 //! The answers of calls.
 
 ghost use Rattle.std.specs.Prelude.{◌≡◌, ◌+◌, ◌≤◌, true, length, OnErr, OnOk};
-ghost use Rattle.grid_event.specs.declared.outcome.Answer.TheVariants as answers;
-ghost use Rattle.grid_event.specs.declared.outcome.Outcome.TheVariants as outcomes;
 ghost use Rattle.cluster_core.specs.Evidence.{counts_for, read_for};
+ghost use Rattle.cluster_core.specs.Views.{count_in, counted};
 ghost use Rattle.fixed_topology.specs.Answers.{answered, can_answer, evidence, same_outcome};
 ghost use Rattle.fixed_topology.specs.Units.{read_by};
 
@@ -26,14 +25,18 @@ impl Core {
     pub(crate) fn can_answer(&self, answer: &AnswerEvent) -> bool
         ensures { result ≡ can_answer self.now answer.now }
     {
-        let _ = &self.config;
-        if !self.can_go_on(answer.call) {
-            return false;
+        match self.call(answer.call) {
+            None => false,
+            Some(call) => {
+                if !call.is_unanswered() {
+                    return false;
+                }
+                if !self.is_complete(answer.call) {
+                    return false;
+                }
+                is_that_count(&answer.outcome, self.count(answer.call))
+            }
         }
-        if !self.is_complete(answer.call) {
-            return false;
-        }
-        is_count(answer.outcome, self.count(answer.call))
     }
 
     /// The call is answered. After want of memory the core is as before.
@@ -46,7 +49,7 @@ impl Core {
             Some(call) => *call,
             None => unreachable!(),
         };
-        let call = call.with_outcome(answer.outcome);
+        let call = call.with_count(count_in(&answer.outcome));
         self.calls.insert(answer.call.number(), call)?;
         Ok(())
     }
@@ -77,12 +80,21 @@ fn counts_for(unit: &Unit, number: CallId) -> bool
 }
 
 /// Whether the outcome is this count.
-fn is_count(outcome: Outcome, count: u64) -> bool
-    ensures { result ≡ same_outcome outcome (outcomes.Value (answers.Count count)) }
+fn is_that_count(outcome: &Outcome, count: u64) -> bool
+    ensures { result ≡ same_outcome outcome.now (counted count) }
 {
     match outcome {
-        Outcome::Value(answer) => match answer {
-            Answer::Count(other) => other == count,
-        },
+        Outcome::Value(Answer::Count(other)) => *other == count,
+        _ => false,
+    }
+}
+
+/// The count that the outcome is; 0 where it is none.
+fn count_in(outcome: &Outcome) -> u64
+    ensures { result ≡ count_in outcome.now }
+{
+    match outcome {
+        Outcome::Value(Answer::Count(count)) => *count,
+        _ => 0,
     }
 }

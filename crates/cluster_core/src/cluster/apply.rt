@@ -10,8 +10,8 @@ use grid_event::Event;
 use std::alloc::Global;
 
 impl Core {
-    /// The event happens. Refused comes exactly where there is no such step; after a fault the core
-    /// is as before.
+    /// The event happens. Refused comes only where there is no such step; where there is none, the
+    /// answer is Refused or want of memory. After a fault the core is as before.
     pub fn apply(&mut self, alloc: Global, event: &Event) -> Result<(), ApplyFault>
         ensures ok { OnOk result (after self.old event.now ≡ Some self.new) }
         ensures refused { IsErrOf result ApplyFault.Refused → after self.old event.now ≡ None }
@@ -36,6 +36,7 @@ impl Core {
             Event::Scan(scan) => self.can_scan(alloc, scan.get()),
             Event::Done { unit } => Ok(self.can_end(*unit)),
             Event::Answer(answer) => Ok(self.can_answer(answer.get())),
+            _ => Ok(false),
         }
     }
 
@@ -60,6 +61,7 @@ impl Core {
                 Ok(())
             }
             Event::Answer(answer) => self.answer(answer.get()),
+            _ => Ok(()),
         }
     }
 }

@@ -49,15 +49,17 @@ impl Core {
                 node,
                 request,
             } => {
+                let request = request.copy(alloc)?;
                 let invoke = InvokeEvent {
                     by: *by,
                     call: *call,
                     node: *node,
-                    request: *request,
+                    request,
                 };
                 self.if_invoke(alloc, invoke)
             }
             Command::Drive { call } => self.drive(alloc, *call),
+            _ => Ok(None),
         }
     }
 
@@ -109,20 +111,24 @@ impl Core {
     fn answer_event(&self, alloc: Global, number: CallId) -> Result<Option<Event>, NoMemory>
         ensures { IfOk result (λ event. event ≡ answer_event self.now number (call_of self.now number)) }
     {
-        let _ = &self.config;
-        if !self.can_go_on(number) {
-            return Ok(None);
+        match self.call(number) {
+            None => Ok(None),
+            Some(call) => {
+                if !call.is_unanswered() {
+                    return Ok(None);
+                }
+                if !self.is_complete(number) {
+                    return Ok(None);
+                }
+                let outcome = Outcome::Value(Answer::Count(self.count(number)));
+                let answer = AnswerEvent {
+                    call: number,
+                    outcome,
+                };
+                let answer = Boxed::new(alloc, answer)?;
+                Ok(Some(Event::Answer(answer)))
+            }
         }
-        if !self.is_complete(number) {
-            return Ok(None);
-        }
-        let outcome = Outcome::Value(Answer::Count(self.count(number)));
-        let answer = AnswerEvent {
-            call: number,
-            outcome,
-        };
-        let answer = Boxed::new(alloc, answer)?;
-        Ok(Some(Event::Answer(answer)))
     }
 
     /// An event of the first open unit of the call that has one.

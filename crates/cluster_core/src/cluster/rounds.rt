@@ -3,6 +3,7 @@
 ghost use Rattle.std.specs.Prelude.{◌≡◌, ◌+◌, ◌&&◌, ◌==◌, [], ◌∷◌, true, not, length, nat_lt, is_none, OnErr, OnOk};
 ghost use Rattle.cluster_core.specs.Served.{IsOne};
 ghost use Rattle.cluster_core.specs.Rounds.{ask_here, is_due_here};
+ghost use Rattle.cluster_core.specs.Views.{IsCountHere};
 ghost use Rattle.fixed_topology.specs.State.{call_of};
 ghost use Rattle.fixed_topology.specs.Calls.{can_round, rounded, same_ask, same_asks};
 
@@ -33,7 +34,7 @@ impl Core {
     /// segment is incomplete.
     pub(crate) fn is_due(&self, number: CallId, call: &Call) -> bool
         ensures due { result ≡ is_due_here self.now number call.now }
-        ensures here { call.now.originator ≡ 0 }
+        ensures here { IsCountHere call.now }
     {
         if !call.is_unanswered() {
             return false;

@@ -82,7 +82,7 @@ impl Core {
     {
         match self.call(number) {
             None => 0,
-            Some(call) => call.request().batch,
+            Some(call) => call.batch(),
         }
     }
 

@@ -1,9 +1,8 @@
 -- The run is that of the lines, and then of all calls.
 use Rattle.std.proofs.Common.{refl, sym, subst, ◌∙◌, Err}
-use Rattle.grid_base.specs.declared.limits.TheConstants.{LAST_CALL}
 use Rattle.step_run.specs.Outcomes.{Leaves, LeavesAt, running}
-use Rattle.step_run.specs.StepRuns.{Progress, after_lines, all_finished, begin, run_of}
-use Rattle.step_run.proofs.Fronts.{all_finished-grows, all_finished-stays, leaves_on}
+use Rattle.step_run.specs.StepRuns.{Progress, after_lines, begin, ended, run_of}
+use Rattle.step_run.proofs.Fronts.{ended-grows, ended-stays, leaves_on}
 use Rattle.step_run.proofs.Kept.{begun_with, leaves_run, left_is_run, run_of-parts, settings_left}
 use Rattle.step_run.proofs.runs.run_steps.Goals as goal
 
@@ -14,10 +13,10 @@ returns-in-Ok-do_lines-clause-leaves c =
     let lines =
     begun_with (record { config = c.script.inside.config; lines = c.script.inside.lines }) script c.in-Ok.core c.start.new.self.history c.as_slice.result.now
     c.script.view_is c.in-Ok.ensures c.start.ensures.started c.as_slice.ensures in
-    leaves_run c.finish_all.result c.finish_all.new.core c.finish_all.new.journal.history (run_of script)
-    (subst (λ (target : Progress). Leaves c.finish_all.result c.finish_all.new.core c.finish_all.new.journal.history target)
+    leaves_run c.end_all.result c.end_all.new.core c.end_all.new.journal.history (run_of script)
+    (subst (λ (target : Progress). Leaves c.end_all.result c.end_all.new.core c.end_all.new.journal.history target)
     (sym (run_of-parts script run (lines ∙ c.in-Ok-do_lines.ensures.leaves)))
-    c.finish_all.ensures.leaves)
+    c.end_all.ensures.leaves)
 
 pub returns-in-Ok-do_lines-clause-run : goal.returns-in-Ok-do_lines-clause-run
 returns-in-Ok-do_lines-clause-run c =
@@ -26,11 +25,11 @@ returns-in-Ok-do_lines-clause-run c =
     let lines =
     begun_with (record { config = c.script.inside.config; lines = c.script.inside.lines }) script c.in-Ok.core c.start.new.self.history c.as_slice.result.now
     c.script.view_is c.in-Ok.ensures c.start.ensures.started c.as_slice.ensures in
-    left_is_run c.finish_all.result c.finish_all.new.journal.history script
-    (leaves_run c.finish_all.result c.finish_all.new.core c.finish_all.new.journal.history (run_of script)
-    (subst (λ (target : Progress). Leaves c.finish_all.result c.finish_all.new.core c.finish_all.new.journal.history target)
+    left_is_run c.end_all.result c.end_all.new.journal.history script
+    (leaves_run c.end_all.result c.end_all.new.core c.end_all.new.journal.history (run_of script)
+    (subst (λ (target : Progress). Leaves c.end_all.result c.end_all.new.core c.end_all.new.journal.history target)
     (sym (run_of-parts script run (lines ∙ c.in-Ok-do_lines.ensures.leaves)))
-    c.finish_all.ensures.leaves))
+    c.end_all.ensures.leaves))
 
 pub returns-in-Ok-do_lines-clause-settings : goal.returns-in-Ok-do_lines-clause-settings
 returns-in-Ok-do_lines-clause-settings c =
@@ -39,11 +38,11 @@ returns-in-Ok-do_lines-clause-settings c =
     let lines =
     begun_with (record { config = c.script.inside.config; lines = c.script.inside.lines }) script c.in-Ok.core c.start.new.self.history c.as_slice.result.now
     c.script.view_is c.in-Ok.ensures c.start.ensures.started c.as_slice.ensures in
-    settings_left c.finish_all.result c.finish_all.new.journal.history script
-    (leaves_run c.finish_all.result c.finish_all.new.core c.finish_all.new.journal.history (run_of script)
-    (subst (λ (target : Progress). Leaves c.finish_all.result c.finish_all.new.core c.finish_all.new.journal.history target)
+    settings_left c.end_all.result c.end_all.new.journal.history script
+    (leaves_run c.end_all.result c.end_all.new.core c.end_all.new.journal.history (run_of script)
+    (subst (λ (target : Progress). Leaves c.end_all.result c.end_all.new.core c.end_all.new.journal.history target)
     (sym (run_of-parts script run (lines ∙ c.in-Ok-do_lines.ensures.leaves)))
-    c.finish_all.ensures.leaves))
+    c.end_all.ensures.leaves))
 
 pub returns-clause-leaves : goal.returns-clause-leaves
 returns-clause-leaves c =
@@ -55,7 +54,7 @@ returns-clause-leaves c =
     leaves_run {A = Unit {0}} (Err c.in-Err.fault) c.do_lines.new.core c.do_lines.new.journal.history (run_of script)
     (subst (λ (target : Progress). LeavesAt c.in-Err.fault c.do_lines.new.core c.do_lines.new.journal.history target)
     (sym (run_of-parts script first refl))
-    (leaves_on c.in-Err.fault c.do_lines.new.core c.do_lines.new.journal.history first (all_finished LAST_CALL 1) (all_finished-stays LAST_CALL 1) (all_finished-grows LAST_CALL 1)
+    (leaves_on c.in-Err.fault c.do_lines.new.core c.do_lines.new.journal.history first ended ended-stays ended-grows
     (subst (λ (target : Progress). LeavesAt c.in-Err.fault c.do_lines.new.core c.do_lines.new.journal.history target) (sym lines) c.in-Err.ensures.leaves)))
 
 pub returns-clause-run : goal.returns-clause-run
@@ -69,5 +68,5 @@ returns-clause-run c =
     (leaves_run {A = Unit {0}} (Err c.in-Err.fault) c.do_lines.new.core c.do_lines.new.journal.history (run_of script)
     (subst (λ (target : Progress). LeavesAt c.in-Err.fault c.do_lines.new.core c.do_lines.new.journal.history target)
     (sym (run_of-parts script first refl))
-    (leaves_on c.in-Err.fault c.do_lines.new.core c.do_lines.new.journal.history first (all_finished LAST_CALL 1) (all_finished-stays LAST_CALL 1) (all_finished-grows LAST_CALL 1)
+    (leaves_on c.in-Err.fault c.do_lines.new.core c.do_lines.new.journal.history first ended ended-stays ended-grows
     (subst (λ (target : Progress). LeavesAt c.in-Err.fault c.do_lines.new.core c.do_lines.new.journal.history target) (sym lines) c.in-Err.ensures.leaves))))

@@ -11,10 +11,10 @@ returns-in-None c = sym (can_round-none c.args.self.now c.args.round.now c.in-No
 pub returns-then-not-is_due : goal.returns-then-not-is_due
 returns-then-not-is_due c =
     ap (λ due. due && ((c.args.round.now.id == 1) && same_asks c.args.round.now.asks (ask_here c.args.self.now ∷ []))) c.if-not-is_due.ensures.due
-    ∙ sym (can_round-some c.args.self.now c.call.ensures.one c.args.round.now c.in-Some.call.now c.in-Some.ensures.call c.is_due.ensures.here)
+    ∙ sym (can_round-some c.args.self.now c.call.ensures.one c.args.round.now c.in-Some.call.now c.in-Some.ensures.call c.is_due.ensures.here.originator)
 
 pub returns-else-not-is_due : goal.returns-else-not-is_due
 returns-else-not-is_due c =
     c.asks_next.ensures
     ∙ ap (λ due. due && ((c.args.round.now.id == 1) && same_asks c.args.round.now.asks (ask_here c.args.self.now ∷ []))) c.if-not-is_due.ensures.due
-    ∙ sym (can_round-some c.args.self.now c.call.ensures.one c.args.round.now c.in-Some.call.now c.in-Some.ensures.call c.is_due.ensures.here)
+    ∙ sym (can_round-some c.args.self.now c.call.ensures.one c.args.round.now c.in-Some.call.now c.in-Some.ensures.call c.is_due.ensures.here.originator)

@@ -3,12 +3,15 @@ use Rattle.std.proofs.Common.{◌≡◌, true, ap, sym, subst, ◌∙◌}
 use Rattle.std.specs.Ordering.{nat_cmp}
 use Rattle.std.specs.Cmp.{nat_cmp_total}
 use Rattle.cluster_core.specs.Insides.{state_of}
-use Rattle.cluster_core.proofs.OneNode.{invoked-one}
+use Rattle.cluster_core.proofs.OneNode.{invoked-one, request-one}
 use Rattle.cluster_core.proofs.Seen.{one_of}
 use Rattle.cluster_core.proofs.Trees.{insert-tree}
 use Rattle.cluster_core.proofs.cluster.Core.invoke.Goals as goal
 use Rattle.fixed_topology.specs.State.{State}
 use Rattle.fixed_topology.specs.Calls.{can_invoke, invoked}
+
+pub new-requires : goal.new-requires
+new-requires c = request-one c.args.self.now c.args.invoke.now c.requires
 
 pub returns-clause-ok : goal.returns-clause-ok
 returns-clause-ok c =

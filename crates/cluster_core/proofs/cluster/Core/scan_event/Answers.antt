@@ -3,7 +3,7 @@ use Rattle.std.proofs.Common.{Some, true, false, ap, ◌∙◌, ◌+◌, length,
 use Rattle.grid_base.specs.Portion.{Portion}
 use Rattle.grid_base.specs.declared.entry.Entry.{Entry}
 use Rattle.grid_base.specs.declared.limits.TheConstants.{MOST_READ}
-use Rattle.grid_event.specs.declared.event.ScanEvent.{ScanEvent}
+use Rattle.grid_event.specs.declared.unit_events.ScanEvent.{ScanEvent}
 use Rattle.grid_event.specs.declared.event.Event.TheVariants as events
 use Rattle.cluster_core.proofs.ChoiceLaws.{scan_event-some}
 use Rattle.cluster_core.proofs.cluster.Core.scan_event.Goals as goal

@@ -1,0 +1,6 @@
+-- The digits get fewer.
+use Rattle.std.proofs.Common.{length}
+use Rattle.grid_shell.proofs.words.+digits_from.Given as goal
+
+abbrev pub decreases-digits_from : goal.decreases-digits_from
+decreases-digits_from l = length l.digits.now
