@@ -152,6 +152,7 @@ module _ (c : Coordination) (p : Copying) (m : Contents) (h : KeepsCopies c p.ce
       away false true f = absurd (f refl)
       away false false f = refl
 
+  -- nor is the receiver of a chunk that lands
   pub landed_copies : (r s : ℕ) (v : Transfer) → transfer_to p.transfers r s ≡ Some v → Receives c.newest r s → KeepsCopies c (lands r s p).cells m
   landed_copies r s v is receives n t l held j =
       copy-lands r s v p is n t j

@@ -19,10 +19,12 @@ use Rattle.cluster_model.specs.Told.{Contents}
 
 -- ---- tests
 
+-- where the first of two tests fails, and one passes, the second does
 pub second_of : (a b : Bool) → a ≡ false → (a || b) ≡ true → b ≡ true
 second_of true b e h = absurd (true≢false e)
 second_of false b e h = h
 
+-- a test fails where its negation passes
 pub turned : (b : Bool) → not b ≡ true → b ≡ false
 turned true h = absurd (true≢false (sym h))
 turned false h = refl
@@ -39,6 +41,7 @@ wider p q xs keeps h = let one = some_of p xs h in any_of q xs one.0 (keeps one.
 -- ---- safety, by the topology that a node has installed
 
 module _ (segments : ℕ) (c : Coordination) (h : KeepsTopologies segments c) where
+  -- what a node has installed, and the newest topology, are safe for the live nodes
   pub safe_by : (n : ℕ) → IsSafe (topology_of c n) c.newest (lives c)
   safe_by n = elim (installed_id c n == c.newest.id) as (λ b. IsSafe (cond b c.newest c.before) c.newest (lives c)) [
     | true ↦ safe_alone c.newest (lives c)

@@ -41,6 +41,7 @@ reached : (st : State) (node : ℕ) (key : List ℕ) (found : Option ℕ) → li
 reached st node key None live is reads = absurd (cc)
 reached st node key (Some segment) live is reads = (segment, record { live = live; has_segment = is; reads = reads })
 
+-- where a key may be changed, this is known
 pub may_change : (st : State) (node : ℕ) (key : List ℕ) → can_change st node key ≡ true → (segment : ℕ) × MayChange st node key segment
 may_change st node key can =
     let parts = and_parts (lives st.coord node) (reaches st node (segment_of st key)) can in
@@ -104,6 +105,7 @@ module _ (segments : ℕ) (c : Coordination) (p : Copying) (m : Contents) (h : K
   pub sending_held : (chunk : Portion StampedEntry) → IsSending c p m r s q chunk (transfer_to p.transfers r s) → some_live c (holders c.newest s) ≡ true
   sending_held chunk go = any_of (lives c) (holders c.newest s) q go.provides.0 (ap (among q) (holders_old c.newest s go.receives.phase) ∙ go.provides.1)
 
+-- a copy that may happen sends such a chunk
 pub may_copy : (segments : ℕ) (st : State) (m : Contents) (e : CopyEvent) → KeepsParts segments st.coord st.copying m → can_copy st e ≡ true
     → IsSending st.coord st.copying m e.receiver e.segment e.provider e.batch (transfer_to st.copying.transfers e.receiver e.segment)
 unfolding can_copy
@@ -129,6 +131,7 @@ is_that_one : (t : Topology) (found : Option Topology) → is_that t found ≡ t
 is_that_one t None h = absurd (cc)
 is_that_one t (Some other) h = ap (λ x. Some x) (sym (same_topology_is t other h))
 
+-- what may be announced is the next topology
 pub may_announce : (segments : ℕ) (st : State) (t : Topology) → KeepsTopologies segments st.coord → can_announce st t ≡ true → IsNext (all_copied st) st.coord t
 unfolding can_announce
 may_announce segments st t h can = following_is_next (all_copied st) st.coord h.some_live h.some_owner h.owned t (is_that_one t (next_topology st) can)

@@ -35,6 +35,7 @@ pub record IsGood (config : Config) : Type 0 where
   pub segments : 0 < config.segments
   pub owners : 0 < config.owners
 
+-- settings in their limits have some node, some segment, and some owner for each
 pub good_config : (config : Config) → is_config config ≡ true → IsGood config
 good_config config h =
     let nodes = and_parts (is_up_to MOST_NODES config.nodes) _ h in

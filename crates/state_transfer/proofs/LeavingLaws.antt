@@ -11,6 +11,7 @@ pub copy-drops : (node : ℕ) (test : ℕ → Bool) (p : Copying) (q t : ℕ) (j
 unfolding drops
 copy-drops node test p q t j = copy-kept p.cells (λ c. not ((c.node == node) && test c.segment)) q t j
 
+-- no transfer goes with a drop
 pub transfer-drops : (node : ℕ) (test : ℕ → Bool) (p : Copying) → (drops node test p).transfers ≡ p.transfers
 unfolding drops
 transfer-drops node test p = refl
@@ -20,6 +21,7 @@ pub copy-forgets : (test : ℕ → Bool) (p : Copying) (q t : ℕ) (j : List ℕ
 unfolding forgets
 copy-forgets test p q t j = copy-kept p.cells (λ c. not (test c.segment)) q t j
 
+-- with the transfers of them
 pub transfer-forgets : (test : ℕ → Bool) (p : Copying) (r s : ℕ) → transfer_to (forgets test p).transfers r s ≡ cond (not (test s)) (transfer_to p.transfers r s) None
 unfolding forgets
 transfer-forgets test p r s = transfer-kept p.transfers (λ d. not (test d.segment)) r s
@@ -52,6 +54,7 @@ copy-departs node test p q t j =
     ∙ ap (λ o. cond (not ((q == node) && true)) o None) (copy-forgets test (restarts node (cancels node p)) q t j ∙ ap (λ (cells : Cells). cond (not (test t)) (copy_at cells q t j) None) (cells-restarts node p))
     ∙ all_twice (q == node) (test t) (copy_at p.cells q t j)
 
+-- of the transfers, those to and from the node and those of the segments go, but for the ended ones that it provided
 pub transfer-departs : (node : ℕ) (test : ℕ → Bool) (p : Copying) (r s : ℕ)
     → transfer_to (drops node (λ _. true) (forgets test (restarts node (cancels node p)))).transfers r s ≡ cond (not (test s)) (remains node r (transfer_to p.transfers r s)) None
 transfer-departs node test p r s =
@@ -59,6 +62,7 @@ transfer-departs node test p r s =
     ∙ transfer-forgets test (restarts node (cancels node p)) r s
     ∙ ap (λ o. cond (not (test s)) o None) (transfer-restarts node (cancels node p) r s ∙ ap (λ o. cond (outlives node o) o None) (transfer-cancels node p r s))
 
+-- the clock stays
 pub clock-departs : (node : ℕ) (test : ℕ → Bool) (p : Copying) → (drops node (λ _. true) (forgets test (restarts node (cancels node p)))).clock ≡ p.clock
 unfolding drops forgets restarts cancels
 clock-departs node test p = refl
@@ -68,15 +72,17 @@ pub cells-closes : (p : Copying) → (closes p).cells ≡ p.cells
 unfolding closes
 cells-closes p = refl
 
+-- where all transfers go, none is there
 pub transfer-closes : (p : Copying) (r s : ℕ) → transfer_to (closes p).transfers r s ≡ None
 unfolding closes
 transfer-closes p r s = transfer-none r s
 
--- neither turns the clock
+-- a drop leaves the clock as it is
 pub clock-drops : (node : ℕ) (test : ℕ → Bool) (p : Copying) → (drops node test p).clock ≡ p.clock
 unfolding drops
 clock-drops node test p = refl
 
+-- and so does closing
 pub clock-closes : (p : Copying) → (closes p).clock ≡ p.clock
 unfolding closes
 clock-closes p = refl

@@ -21,11 +21,13 @@ pub copy-changes : (nodes : List ℕ) (s : ℕ) (k : List ℕ) (o : Option Stamp
 unfolding changes
 copy-changes nodes s k o p q t j = copy-set_at nodes s k o p.cells q t j
 
+-- and is touched in the transfers to them
 pub transfer-changes : (nodes : List ℕ) (s : ℕ) (k : List ℕ) (o : Option Stamped) (p : Copying) (r t : ℕ)
     → transfer_to (changes nodes s k o p).transfers r t ≡ option_map (marks nodes s k (to r t)) (transfer_to p.transfers r t)
 unfolding changes
 transfer-changes nodes s k o p r t = transfer-changed (marks nodes s k) p.transfers r t
 
+-- the clock stays
 pub clock-changes : (nodes : List ℕ) (s : ℕ) (k : List ℕ) (o : Option Stamped) (p : Copying) → (changes nodes s k o p).clock ≡ p.clock
 unfolding changes
 clock-changes nodes s k o p = refl
@@ -36,11 +38,13 @@ pub copy-sends : (r s provider : ℕ) (chunk : Portion StampedEntry) (p : Copyin
 unfolding sends
 copy-sends r s provider chunk p q t j = copy-kept p.cells (λ c. is_some (transfer_to p.transfers r s) || not ((c.node == r) && (c.segment == s))) q t j
 
+-- and flies in its transfer
 pub transfer-sends : (r s provider : ℕ) (chunk : Portion StampedEntry) (p : Copying) (q t : ℕ)
     → transfer_to (sends r s provider chunk p).transfers q t ≡ cond ((q == r) && (t == s)) (Some (with_chunk chunk (begun (transfer_to p.transfers r s) provider))) (transfer_to p.transfers q t)
 unfolding sends
 transfer-sends r s provider chunk p q t = transfer-put p.transfers r s (with_chunk chunk (begun (transfer_to p.transfers r s) provider)) q t
 
+-- the clock stays
 pub clock-sends : (r s provider : ℕ) (chunk : Portion StampedEntry) (p : Copying) → (sends r s provider chunk p).clock ≡ p.clock
 unfolding sends
 clock-sends r s provider chunk p = refl
@@ -55,10 +59,12 @@ copy-lands r s v p is q t j = ap (λ found. copy_at (landed r s found p.cells) q
 abbrev pub emptied : ℕ → ℕ → ℕ → ℕ → Transfer → Transfer
 emptied r s q t transfer = record transfer { flying = cond ((q == r) && (t == s)) None transfer.flying }
 
+-- and flies no longer
 pub transfer-lands : (r s : ℕ) (p : Copying) (q t : ℕ) → transfer_to (lands r s p).transfers q t ≡ option_map (emptied r s q t) (transfer_to p.transfers q t)
 unfolding lands
 transfer-lands r s p q t = transfer-changed (λ d transfer. emptied r s d.receiver d.segment transfer) p.transfers q t
 
+-- the clock stays
 pub clock-lands : (r s : ℕ) (p : Copying) → (lands r s p).clock ≡ p.clock
 unfolding lands
 clock-lands r s p = refl
@@ -72,10 +78,12 @@ copy-ticks clock p q t j = copy-ticked clock p.cells q t j
 abbrev pub thinned : ℕ → Transfer → Transfer
 thinned clock transfer = record transfer { flying = option_map (unexpired clock) transfer.flying }
 
+-- so does what flies
 pub transfer-ticks : (clock : ℕ) (p : Copying) (q t : ℕ) → transfer_to (ticks clock p).transfers q t ≡ option_map (thinned clock) (transfer_to p.transfers q t)
 unfolding ticks
 transfer-ticks clock p q t = transfer-changed (λ d transfer. thinned clock transfer) p.transfers q t
 
+-- the clock stands where it was put
 pub clock-ticks : (clock : ℕ) (p : Copying) → (ticks clock p).clock ≡ clock
 unfolding ticks
 clock-ticks clock p = refl

@@ -50,34 +50,41 @@ gone_at c q n = map_of.get-remove nat_cmp_total c.installed q n ∙ ap (λ b. co
 
 -- ---- a node joins
 
+-- it lives then, and the others as before
 pub lives-joins : (c : Coordination) (q n : ℕ) → lives (joins c q) n ≡ ((n == q) || lives c n)
 unfolding joins
 lives-joins c q n = ap is_some (put_at c q c.newest.id n) ∙ there_or (n == q) c.newest.id (map_of.get c.installed n)
 
+-- it has the newest topology
 pub installed-joins : (c : Coordination) (q n : ℕ) → installed_id (joins c q) n ≡ cond (n == q) c.newest.id (installed_id c n)
 unfolding joins
 installed-joins c q n = ap (λ o. unwrap_or o 0) (put_at c q c.newest.id n) ∙ number_or (n == q) c.newest.id (map_of.get c.installed n)
 
+-- it was a member
 pub member-joins : (c : Coordination) (q n : ℕ) → set_of.contains (joins c q).ever n ≡ ((n == q) || set_of.contains c.ever n)
 unfolding joins
 member-joins c q n = set_of.contains-insert nat_cmp_total c.ever q n ∙ ap (λ b. b || set_of.contains c.ever n) (unsigned_tied n q)
 
 -- ---- a node departs
 
+-- it lives no longer, and the others as before
 pub lives-departs : (c : Coordination) (q n : ℕ) → lives (departs c q) n ≡ (not (n == q) && lives c n)
 unfolding departs
 lives-departs c q n = ap is_some (gone_at c q n) ∙ there_but (n == q) (map_of.get c.installed n)
 
+-- what the others have installed stays
 pub installed-departs : (c : Coordination) (q n : ℕ) → installed_id (departs c q) n ≡ cond (n == q) 0 (installed_id c n)
 unfolding departs
 installed-departs c q n = ap (λ o. unwrap_or o 0) (gone_at c q n) ∙ number_but (n == q) (map_of.get c.installed n)
 
 -- ---- a node installs
 
+-- it lives, and the others as before
 pub lives-installs : (c : Coordination) (q n : ℕ) → lives (installs c q) n ≡ ((n == q) || lives c n)
 unfolding installs
 lives-installs c q n = ap is_some (put_at c q c.newest.id n) ∙ there_or (n == q) c.newest.id (map_of.get c.installed n)
 
+-- it has the newest topology
 pub installed-installs : (c : Coordination) (q n : ℕ) → installed_id (installs c q) n ≡ cond (n == q) c.newest.id (installed_id c n)
 unfolding installs
 installed-installs c q n = ap (λ o. unwrap_or o 0) (put_at c q c.newest.id n) ∙ number_or (n == q) c.newest.id (map_of.get c.installed n)
@@ -92,19 +99,21 @@ length_less : (b : Bool) (n : ℕ) → 1 < n → 0 < cond b (n - 1) n
 length_less true n h = omega arith
 length_less false n h = omega arith
 
--- where some live, some live after a join, an installation, and a departure of one of several
+-- where some live, some live after a join
 pub some-joins : (c : Coordination) (q : ℕ) → 0 < length (live_nodes c) → 0 < length (live_nodes (joins c q))
 unfolding joins
 some-joins c q h =
     let few : 0 < map_of.len c.installed = omega (arith, length-live c) in
     omega (arith, length-live (joins c q), map_of.len-insert nat_cmp_total c.installed q c.newest.id, length_more (map_of.contains_key c.installed q) (map_of.len c.installed) few)
 
+-- after an installation
 pub some-installs : (c : Coordination) (q : ℕ) → 0 < length (live_nodes c) → 0 < length (live_nodes (installs c q))
 unfolding installs
 some-installs c q h =
     let few : 0 < map_of.len c.installed = omega (arith, length-live c) in
     omega (arith, length-live (installs c q), map_of.len-insert nat_cmp_total c.installed q c.newest.id, length_more (map_of.contains_key c.installed q) (map_of.len c.installed) few)
 
+-- and after the departure of one of several
 pub some-departs : (c : Coordination) (q : ℕ) → may_depart c q ≡ true → 0 < length (live_nodes (departs c q))
 unfolding departs
 some-departs c q h =
@@ -118,14 +127,17 @@ by_number : (b : Bool) (id : ℕ) (i : ℕ) (newest before : Topology) → id �
 by_number true id i newest before e = ap (λ b. cond b newest before) (nat_eq_equiv.congr id newest.id newest.id (ap (λ k. k == newest.id) e ∙ nat_eq_equiv.refl newest.id) ∙ nat_eq_equiv.refl newest.id)
 by_number false id i newest before e = refl
 
+-- who joins has the newest, and the others what they had
 pub topology-joins : (c : Coordination) (q n : ℕ) → topology_of (joins c q) n ≡ cond (n == q) c.newest (topology_of c n)
 unfolding joins
 topology-joins c q n = ap (λ i. cond (i == c.newest.id) c.newest c.before) (installed-joins c q n) ∙ by_number (n == q) c.newest.id (installed_id c n) c.newest c.before refl
 
+-- who installs has the newest, and the others what they had
 pub topology-installs : (c : Coordination) (q n : ℕ) → topology_of (installs c q) n ≡ cond (n == q) c.newest (topology_of c n)
 unfolding installs
 topology-installs c q n = ap (λ i. cond (i == c.newest.id) c.newest c.before) (installed-installs c q n) ∙ by_number (n == q) c.newest.id (installed_id c n) c.newest c.before refl
 
+-- who stays has what it had
 pub topology-departs : (c : Coordination) (q n : ℕ) → lives (departs c q) n ≡ true → topology_of (departs c q) n ≡ topology_of c n
 unfolding departs
 topology-departs c q n l =
@@ -148,6 +160,7 @@ each_of p (x ∷ xs) n all h = elim (or_cases (x == n) (among n xs) h) [
 pub has_newest : (c : Coordination) → all_installed c ≡ true → (n : ℕ) → lives c n ≡ true → installed_id c n ≡ c.newest.id
 has_newest c all n l = eqb-true (installed_id c n) c.newest.id (each_of (λ m. installed_id c m == c.newest.id) (live_nodes c) n all (among-live c n ∙ l))
 
+-- and its topology is the newest
 pub topology_newest : (c : Coordination) → all_installed c ≡ true → (n : ℕ) → lives c n ≡ true → topology_of c n ≡ c.newest
 topology_newest c all n l =
     ap (λ b. cond b c.newest c.before) (ap (λ i. i == c.newest.id) (has_newest c all n l) ∙ nat_eq_equiv.refl c.newest.id)
