@@ -1,5 +1,5 @@
 -- What a unit reads next, told by look-ups in the cluster's map.
-use Rattle.std.proofs.Common.{◌≡◌, ℕ, suc, ◌+◌, ◌-◌, ◌≤◌, ◌==◌, Bool, true, false, not, ◌&&◌, cond, List, [], ◌∷◌, ◌++◌, map, length, length-append, append-nil, append_assoc, Option, None, Some, refl, sym, ap, ◌∙◌, arith, subst, unwrap_or, slice_get}
+use Rattle.std.proofs.Common.{◌≡◌, ℕ, suc, ◌+◌, ◌-◌, ◌≤◌, Bool, true, false, not, ◌&&◌, cond, List, [], ◌∷◌, ◌++◌, map, length, append-nil, append_assoc, Option, None, Some, refl, sym, ap, ◌∙◌, arith, subst, unwrap_or, slice_get}
 use Rattle.std.proofs.lemmas.Bool.{and_parts}
 use Rattle.std.proofs.lemmas.Cmp.{nat_list_cmp_total}
 use Rattle.std.specs.Cmp.{nat_eq_equiv}
@@ -28,7 +28,7 @@ use Rattle.state_transfer.specs.Cells.{Cells}
 use Rattle.state_transfer.specs.Chunks.{last_sent}
 use Rattle.state_transfer.specs.Copying.{copy_at, part_of}
 use Rattle.state_transfer.specs.Faithful.{has_each_once, stamped_in}
-use Rattle.cluster_model.specs.Evidence.{entry_times, how_many, times}
+use Rattle.cluster_model.specs.Evidence.{entry_times, times}
 use Rattle.cluster_model.specs.Told.{contents_of, is_segment}
 use Rattle.cluster_model.specs.Units.{last_key}
 use Rattle.cluster_laws.proofs.Reading.{BatchOf, entry_le}
@@ -94,6 +94,7 @@ times_in (e ∷ es) k h =
     none_is : (o : Option Stamped) → is_none o ≡ true → is_some o ≡ false
     none_is None h = refl
     none_is (Some x) h = absurd (cc)
+
     by_tie : (b : Bool) → eq_by_cmp key_cmp k e.key ≡ b → is_none (stamped_in es e.key) ≡ true → times k (map plain_entry es) ≡ cond {A = ℕ} (is_some (stamped_in es k)) 1 0 →
         cond {A = ℕ} b 1 0 + times k (map plain_entry es) ≡ cond {A = ℕ} (is_some (cond b (Some e.stamped) (stamped_in es k))) 1 0
     by_tie true t none rest =
@@ -111,6 +112,7 @@ entry_times_in (e ∷ es) k stamped h found =
   where
     either_one : Option Stamped → Stamped
     either_one o = unwrap_or o stamped
+
     by_tie : (b : Bool) → eq_by_cmp key_cmp k e.key ≡ b → cond b (Some e.stamped) (stamped_in es k) ≡ Some stamped →
         (stamped_in es k ≡ Some stamped → entry_times k stamped.value (map plain_entry es) ≡ 1) →
         entry_times k stamped.value (plain_entry e ∷ map plain_entry es) ≡ 1
@@ -118,7 +120,7 @@ entry_times_in (e ∷ es) k stamped h found =
         let same : e.stamped ≡ stamped = ap either_one here in
         let key_is : k ≡ e.key = tied_keys k e.key t in
         let counted : same_entry (record { key = k; value = stamped.value }) (plain_entry e) ≡ true =
-            subst (λ (x : Entry). same_entry x (plain_entry e) ≡ true) (λ i. record { key = sym key_is i; value = (same i).value }) (same_entry-itself (plain_entry e)) in
+        subst (λ (x : Entry). same_entry x (plain_entry e) ≡ true) (λ i. record { key = sym key_is i; value = (same i).value }) (same_entry-itself (plain_entry e)) in
         let whole = times_in (e ∷ es) k h in
         let most : times k (map plain_entry (e ∷ es)) ≡ 1 = whole ∙ ap (λ b. cond {A = ℕ} (is_some (cond b (Some e.stamped) (stamped_in es k))) 1 0) t in
         let le = entry_le k stamped.value (map plain_entry (e ∷ es)) in
@@ -144,20 +146,26 @@ entry_times_in (e ∷ es) k stamped h found =
 module _ (config : Config) (past : List Event) (cells : Cells) (segment node most : ℕ) (entries : List Entry) (complete : (key : List ℕ) → copy_at cells node segment key ≡ contents_of config past segment key) where
   abbrev chunk : Portion StampedEntry
   chunk = next_chunk node (last_key entries) most (part_of cells node segment)
+
   ic : IsChunk cells node segment (last_key entries) chunk
   ic = next_is_chunk cells node segment (last_key entries) most
+
   behind : (key : List ℕ) → comes_after node (last_key (entries ++ map plain_entry chunk.entries)) key ≡ comes_after node (last_sent chunk.entries (last_key entries)) key
   behind key = ap (λ k. comes_after node k key) (last_key-append entries chunk.entries)
+
   at_most : {n : ℕ} (b : Bool) → n ≡ cond {A = ℕ} b 1 0 → n ≤ 1
   at_most true e = omega (arith, e)
   at_most false e = omega (arith, e)
+
   none_of : (a b : Bool) (o : Option Stamped) → b ≡ true → cond (a && not b) o None ≡ None
   none_of true true o e = refl
   none_of false true o e = refl
   none_of a false o e = absurd (cc)
+
   gone : (key : List ℕ) → comes_after node (last_sent chunk.entries (last_key entries)) key ≡ true →
       cond (comes_after node (last_key entries) key && not (comes_after node (last_sent chunk.entries (last_key entries)) key)) (copy_at cells node segment key) None ≡ None
   gone key p = none_of (comes_after node (last_key entries) key) (comes_after node (last_sent chunk.entries (last_key entries)) key) (copy_at cells node segment key) p
+
   -- what stands in the map at a key of the segment, with its deadline
   stamped_at : (key : List ℕ) (datum : Datum) → segment_number config.partition config.segments key ≡ Some segment → value_at config past key ≡ Some datum →
       (stamped : Stamped) × ((copy_at cells node segment key ≡ Some stamped) × (stamped.value ≡ datum))
@@ -166,17 +174,22 @@ module _ (config : Config) (past : List Event) (cells : Cells) (segment node mos
       by_map : (o : Option Stamped) → map_of.get (entries_of config past) key ≡ o → option_map (λ (x : Stamped). x.value) o ≡ Some datum →
           (stamped : Stamped) × ((copy_at cells node segment key ≡ Some stamped) × (stamped.value ≡ datum))
       by_map None e h = absurd (cc)
-      by_map (Some stamped) e h =
-          (stamped,
-          (complete key ∙ ap (λ o. cond (is_segment o segment) (map_of.get (entries_of config past) key) None) s ∙ ap (λ b. cond b (map_of.get (entries_of config past) key) None) (nat_eq_equiv.refl segment) ∙ e,
-          ap (λ (o : Option Datum). unwrap_or o stamped.value) h))
+      by_map (Some stamped) e h = (
+        stamped,
+        (
+          complete key ∙ ap (λ o. cond (is_segment o segment) (map_of.get (entries_of config past) key) None) s ∙ ap (λ b. cond b (map_of.get (entries_of config past) key) None) (nat_eq_equiv.refl segment) ∙ e,
+          ap (λ (o : Option Datum). unwrap_or o stamped.value) h,
+        ),
+      )
+
   found_one : (key : List ℕ) (datum : Datum) → segment_number config.partition config.segments key ≡ Some segment → value_at config past key ≡ Some datum →
       comes_after node (last_key entries) key ≡ true → comes_after node (last_sent chunk.entries (last_key entries)) key ≡ false → entry_times key datum (map plain_entry chunk.entries) ≡ 1
   found_one key datum s stands p q =
       let here = stamped_at key datum s stands in
       let there : stamped_in chunk.entries key ≡ Some here.0 =
-          ic.given key ∙ (λ i. cond (p i && not (q i)) (copy_at cells node segment key) None) ∙ here.1.0 in
+      ic.given key ∙ (λ i. cond (p i && not (q i)) (copy_at cells node segment key) None) ∙ here.1.0 in
       ap (λ d. entry_times key d (map plain_entry chunk.entries)) (sym here.1.1) ∙ entry_times_in chunk.entries key here.0 ic.once there
+
   none_left : chunk.last ≡ true → (key : List ℕ) (datum : Datum) → segment_number config.partition config.segments key ≡ Some segment → value_at config past key ≡ Some datum →
       (b : Bool) → comes_after node (last_sent chunk.entries (last_key entries)) key ≡ b → b ≡ false
   none_left last key datum s stands false e = refl

@@ -1,20 +1,16 @@
 -- Every run keeps what is known of its units, and this is completion.
-use Rattle.std.proofs.Common.{◌≡◌, ℕ, ◌+◌, ◌==◌, Bool, true, false, List, [], ◌∷◌, length, reverse, Some, None, refl, sym, ap, ◌∙◌, arith, subst, unwrap_or}
+use Rattle.std.proofs.Common.{◌≡◌, ◌+◌, true, List, [], ◌∷◌, reverse, refl, subst}
 use mathlib.Core.List.{reverse_aux}
 use Rattle.std.proofs.lemmas.Bool.{and_parts}
-use Rattle.std.specs.List.{AllByRecursion}
-use Rattle.grid_event.specs.Configs.{is_config}
-use Rattle.grid_event.specs.UnitHistories.{has_ended}
 use Rattle.grid_event.specs.declared.config.Config.{Config}
 use Rattle.grid_event.specs.declared.event.Event.{Event}
 use Rattle.grid_event.specs.declared.event.Event.TheVariants.{Announce}
-use Rattle.topology_coord.proofs.MemberLaws.{among-live}
-use Rattle.topology_coord.proofs.NextLaws.{IsNext, next_follows}
+use Rattle.topology_coord.proofs.NextLaws.{next_follows}
 use Rattle.topology_coord.specs.Coordination.{all_installed}
 use Rattle.topology_phase.specs.Topologies.{Topology}
 use Rattle.cluster_model.specs.Completion.{Completion, IsCompleted, is_reading}
 use Rattle.cluster_model.specs.Kept.{IsKept}
-use Rattle.cluster_model.specs.State.{State, Unit, call_of, is_running, start}
+use Rattle.cluster_model.specs.State.{State, Unit, call_of, start}
 use Rattle.cluster_model.specs.Step.{allowed, changed, runs, state}
 use Rattle.cluster_model.specs.Topologies.{all_copied, can_announce}
 use Rattle.cluster_model.specs.Units.{batch_size}

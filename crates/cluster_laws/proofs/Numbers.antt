@@ -1,5 +1,5 @@
 -- Units are numbered from 1 on, in their order.
-use Rattle.std.proofs.Common.{◌≡◌, ℕ, suc, ◌+◌, ◌≤◌, ◌<◌, ◌==◌, Bool, true, false, ◌&&◌, cond, List, [], ◌∷◌, ◌++◌, map, length, Option, None, Some, refl, sym, ap, ◌∙◌, arith, subst}
+use Rattle.std.proofs.Common.{◌≡◌, ℕ, suc, ◌+◌, ◌<◌, ◌==◌, Bool, true, false, cond, List, [], ◌∷◌, ◌++◌, map, length, Option, None, Some, refl, ap, ◌∙◌, arith, subst}
 use Rattle.std.proofs.lemmas.Bool.Decides.{nat_tests}
 use Rattle.std.specs.List.{AllByRecursion, find}
 use Rattle.std.specs.Bool.{⊤}
@@ -38,9 +38,11 @@ found_alone m n (unit ∷ units) found a e = by_head (unit.work.id == m) refl e 
         (find (λ (u : Unit). u.work.id == m) units ≡ Some found → AllByRecursion (λ (u : Unit). (u.work.id == m) ≡ true → u ≡ found) units) →
         AllByRecursion (λ (u : Unit). (u.work.id == m) ≡ true → u ≡ found) (unit ∷ units)
     by_head true t here further =
-        let same : unit ≡ found = ap (λ o. either_unit o) here in
-        ((λ here. same), each_imply (λ (u : Unit). (u.work.id == m) ≡ false) (λ (u : Unit). (u.work.id == m) ≡ true → u ≡ found) (λ u differs same. absurd (cc)) units
-        (none_below m (suc n) (let e : unit.work.id ≡ n = a.0 in let f : unit.work.id ≡ m = grind (arith, nat_tests) in omega arith) units a.1))
+        let same : unit ≡ found = ap (λ o. either_unit o) here in (
+          (λ here. same),
+          each_imply (λ (u : Unit). (u.work.id == m) ≡ false) (λ (u : Unit). (u.work.id == m) ≡ true → u ≡ found) (λ u differs same. absurd (cc)) units
+              (none_below m (suc n) (let e : unit.work.id ≡ n = a.0 in let f : unit.work.id ≡ m = grind (arith, nat_tests) in omega arith) units a.1),
+        )
       where
         either_unit : Option Unit → Unit
         either_unit None = unit

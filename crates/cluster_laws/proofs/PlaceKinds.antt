@@ -1,28 +1,25 @@
 -- Each kind of event leaves open units at live nodes, and running ones where they are read.
-use Rattle.std.proofs.Common.{◌≡◌, ℕ, ◌+◌, ◌==◌, Bool, true, false, not, ◌&&◌, cond, List, [], ◌∷◌, ◌++◌, map, length, Option, None, Some, refl, sym, ap, ◌∙◌, subst, if◌then◌else◌}
-use Rattle.std.proofs.lemmas.Bool.{and_parts}
-use Rattle.std.specs.List.{AllByRecursion}
+use Rattle.std.proofs.Common.{◌≡◌, ℕ, ◌+◌, ◌==◌, true, ◌&&◌, cond, List, map, length, None, Some, refl, sym, ◌∙◌, subst}
 use Rattle.grid_event.specs.declared.call_events.RoundEvent.{RoundEvent}
 use Rattle.grid_event.specs.declared.event.Event.{Event}
 use Rattle.grid_event.specs.declared.event.Event.TheVariants.{Write, Erase, Tick, Join, Depart, Announce, Install, Copy, Land, Invoke, Round, Begin, Scan, Fetch, Take, Done, Answer}
 use Rattle.local_publisher.specs.Units.{ended, extended}
 use Rattle.local_publisher.specs.declared.unit_state.UnitState.TheVariants.{Ended}
 use Rattle.topology_coord.proofs.MemberLaws.{topology-announces, topology_newest}
-use Rattle.topology_coord.proofs.NextLaws.{IsNext}
 use Rattle.topology_coord.specs.Changes.{announces, departs, installs}
-use Rattle.topology_coord.specs.Coordination.{Coordination, all_installed, lives, topology_of}
+use Rattle.topology_coord.specs.Coordination.{Coordination, all_installed}
 use Rattle.topology_phase.specs.Topologies.{Topology}
 use Rattle.cluster_model.proofs.Frames.{coord_stays, units_stays}
-use Rattle.cluster_model.specs.Calls.{asks_from, incomplete, rounded, unit_asked}
+use Rattle.cluster_model.specs.Calls.{incomplete, rounded, unit_asked}
 use Rattle.cluster_model.specs.Kept.{KeepsTopologies}
 use Rattle.cluster_model.specs.State.{Call, State, Unit, is_open_unit, with_loss}
 use Rattle.cluster_model.specs.Step.{allowed, changed}
-use Rattle.cluster_model.specs.Topologies.{announced, can_announce, can_join, ceases, departed, installed, joined}
+use Rattle.cluster_model.specs.Topologies.{announced, can_join, ceases, departed, installed, joined}
 use Rattle.cluster_model.specs.Units.{begun_unit, can_begin, can_begin_unit, ended_unit, fetched, scanned, taken_by, with_begin}
 use Rattle.cluster_laws.proofs.Lists.{each-append, each_changed, each_imply}
 use Rattle.cluster_laws.proofs.Numbers.{NumberedFrom}
 use Rattle.cluster_laws.proofs.UnitFacts.{CanRound, each_named, round_facts}
-use Rattle.cluster_laws.proofs.UnitPlaces.{AllPlaced, IsPlaced, Placed, asked_placed, begin_placed, closed, departs_one, due_readers, installs_one, joins_placed, keeps_place, moved, named_placed}
+use Rattle.cluster_laws.proofs.UnitPlaces.{AllPlaced, Placed, asked_placed, begin_placed, closed, departs_one, due_readers, installs_one, joins_placed, keeps_place, moved, named_placed}
 
 -- an announcement: every live node keeps the topology that it has
 announces_placed : (c : Coordination) (next : Topology) (units : List Unit) → all_installed c ≡ true → next.id ≡ c.newest.id + 1 → AllPlaced c units → AllPlaced (announces c next) units

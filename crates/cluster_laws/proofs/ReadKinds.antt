@@ -1,5 +1,5 @@
 -- Each kind of event keeps what is known of what units have read.
-use Rattle.std.proofs.Common.{◌≡◌, ℕ, suc, ◌+◌, ◌≤◌, ◌<◌, ◌==◌, Bool, true, false, not, ◌&&◌, ◌||◌, cond, List, [], ◌∷◌, ◌++◌, map, length, Option, None, Some, refl, sym, ap, ◌∙◌, arith, subst, if◌then◌else◌}
+use Rattle.std.proofs.Common.{◌≡◌, ℕ, ◌==◌, Bool, true, false, not, ◌&&◌, ◌||◌, List, [], ◌∷◌, ◌++◌, None, Some, refl, sym, ap, ◌∙◌, arith, subst, if◌then◌else◌}
 use Rattle.std.proofs.lemmas.Bool.{and_parts}
 use Rattle.std.proofs.lemmas.Bool.Decides.{nat_tests}
 use Rattle.std.specs.Bool.{beq}
@@ -19,15 +19,14 @@ use Rattle.local_publisher.specs.declared.unit_state.UnitState.{UnitState}
 use Rattle.local_publisher.specs.declared.unit_state.UnitState.TheVariants.{Asked, Running, Refused, Lost, Ended}
 use Rattle.topology_coord.specs.Coordination.{installed_id}
 use Rattle.cluster_model.proofs.Frames.{units_stays}
-use Rattle.cluster_model.specs.Completion.{begins}
 use Rattle.cluster_model.specs.Same.{same_batch, same_entries}
-use Rattle.cluster_model.specs.State.{State, Unit, call_of, goes_on, is_asked, is_ended, is_open_unit, is_running, unit_of, with_unit}
+use Rattle.cluster_model.specs.State.{State, Unit, call_of, goes_on, is_asked, is_ended, is_open_unit, is_running}
 use Rattle.cluster_model.specs.Step.{allowed, changed}
 use Rattle.cluster_model.specs.Topologies.{ceases, departed, installed}
-use Rattle.cluster_model.specs.Units.{begun_unit, can_begin, can_begin_unit, can_end, can_end_unit, can_fetch, can_read, can_scan, can_take, can_take_unit, call_of_unit, ended_unit, fetched, next_batch, read_by, reads, scanned, taken_by, walks, with_begin}
+use Rattle.cluster_model.specs.Units.{begun_unit, can_begin, can_begin_unit, can_end, can_end_unit, can_fetch, can_read, can_scan, can_take, can_take_unit, call_of_unit, ended_unit, fetched, next_batch, scanned, taken_by, walks, with_begin}
 use Rattle.cluster_laws.proofs.Lists.{each_both, each_imply}
-use Rattle.cluster_laws.proofs.Reading.{BatchOf, ReadOf, begun_reading, carried, read_more, reads_in}
-use Rattle.cluster_laws.proofs.ReadSteps.{IsAside, IsAsideOthers, KeepsNamed, ReadKept, UnitsKept, asks_units, loses_units, named_one, names_unit, stays, still}
+use Rattle.cluster_laws.proofs.Reading.{BatchOf, ReadOf, begun_reading, carried, read_more}
+use Rattle.cluster_laws.proofs.ReadSteps.{IsAside, IsAsideOthers, KeepsNamed, UnitsKept, asks_units, loses_units, names_unit, stays, still}
 use Rattle.cluster_laws.proofs.UnitFacts.{each_named, named_within}
 
 -- what the node of a running unit would hand on next is a batch of the cluster's map; and so it is of each unit
@@ -95,7 +94,7 @@ reads_named config past event st walk number given change aside extends may show
     read_one unit test shows here r =
         let f = read_facts st walk given unit (test here) in
         let b : BatchOf config past unit.work.segment unit.work.node unit.work.entries given.entries given.last =
-            subst (λ (x : Portion Entry). BatchOf config past unit.work.segment unit.work.node unit.work.entries x.entries x.last) (sym f.is_next) (shows f.runs) in
+        subst (λ (x : Portion Entry). BatchOf config past unit.work.segment unit.work.node unit.work.entries x.entries x.last) (sym f.is_next) (shows f.runs) in
         let more = read_more config past unit.work.id unit.work.segment unit.work.node unit.work.entries given.entries unit.work.last given.last unit.work.state f.runs b r in
         subst (λ work. ReadOf config (event ∷ past) work.id work.segment work.node work.entries work.last work.state) (sym (extends unit))
         (carried config past event unit.work.id unit.work.segment unit.work.node (unit.work.entries ++ given.entries) given.last unit.work.state unit.work.state

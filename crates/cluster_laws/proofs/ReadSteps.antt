@@ -1,29 +1,22 @@
 -- Each event keeps what is known of what units have read.
-use Rattle.std.proofs.Common.{◌≡◌, ℕ, suc, ◌+◌, ◌≤◌, ◌<◌, ◌==◌, Bool, true, false, not, ◌&&◌, ◌||◌, cond, List, [], ◌∷◌, ◌++◌, map, length, length-append, Option, None, Some, refl, sym, ap, ◌∙◌, arith, subst}
-use Rattle.std.proofs.lemmas.Bool.{and_parts}
+use Rattle.std.proofs.Common.{◌≡◌, ℕ, ◌+◌, ◌≤◌, ◌<◌, ◌==◌, Bool, true, false, cond, List, [], ◌∷◌, ◌++◌, map, length, length-append, Option, refl, sym, ◌∙◌, arith, subst}
 use Rattle.std.proofs.lemmas.Bool.Decides.{nat_tests}
 use Rattle.std.specs.List.{AllByRecursion}
-use Rattle.grid_base.specs.Portion.{Portion}
-use Rattle.grid_base.specs.declared.entry.Entry.{Entry}
 use Rattle.grid_event.specs.UnitHistories.{has_ended}
 use Rattle.grid_event.specs.declared.call_events.RoundEvent.{RoundEvent}
 use Rattle.grid_event.specs.declared.config.Config.{Config}
 use Rattle.grid_event.specs.declared.event.Event.{Event}
-use Rattle.grid_event.specs.declared.event.Event.TheVariants.{Write, Erase, Tick, Join, Depart, Announce, Install, Copy, Land, Invoke, Round, Begin, Scan, Fetch, Take, Done, Answer}
+use Rattle.grid_event.specs.declared.event.Event.TheVariants.{Round}
 use Rattle.local_publisher.specs.Stages.{is_open}
 use Rattle.local_publisher.specs.declared.unit_state.UnitState.{UnitState}
 use Rattle.local_publisher.specs.declared.unit_state.UnitState.TheVariants.{Asked, Running, Refused, Lost, Ended}
-use Rattle.cluster_model.proofs.Frames.{units_stays}
 use Rattle.cluster_model.specs.Completion.{begins}
 use Rattle.cluster_model.specs.Calls.{asks_from, can_round, incomplete, rounded, unit_asked}
-use Rattle.cluster_model.specs.State.{Call, State, Unit, call_of, is_asked, is_ended, is_open_unit, is_running, unit_of, with_loss, with_unit}
-use Rattle.cluster_model.specs.Step.{allowed, changed}
-use Rattle.cluster_model.specs.Topologies.{can_depart, can_install, ceases, departed, installed}
-use Rattle.cluster_model.specs.Units.{begun_unit, can_begin, can_begin_unit, can_end, can_end_unit, can_fetch, can_read, can_scan, ended_unit, fetched, last_key, scanned, taken_by, with_begin}
-use Rattle.cluster_laws.proofs.Lists.{each-append, each_any, each_both, each_changed, each_imply}
+use Rattle.cluster_model.specs.State.{Call, State, Unit, is_ended, is_open_unit, with_loss, with_unit}
+use Rattle.cluster_laws.proofs.Lists.{each-append, each_changed, each_imply}
 use Rattle.cluster_laws.proofs.Numbers.{NumberedFrom, numbered-append, numbered-map}
-use Rattle.cluster_laws.proofs.Reading.{BatchOf, ReadOf, begun_reading, carried, read_more, reads_in}
-use Rattle.cluster_laws.proofs.UnitFacts.{CanRound, asked_numbered, each_named, named_within, round_facts}
+use Rattle.cluster_laws.proofs.Reading.{ReadOf, carried}
+use Rattle.cluster_laws.proofs.UnitFacts.{CanRound, asked_numbered, round_facts}
 
 -- what is kept of one unit
 abbrev pub ReadKept : Config → List Event → Unit → Type 0

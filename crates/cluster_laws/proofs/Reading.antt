@@ -1,8 +1,6 @@
 -- What units have read.
-use Rattle.std.proofs.Common.{◌≡◌, ℕ, suc, ◌+◌, ◌≤◌, ◌<◌, ◌==◌, Bool, true, false, not, ◌&&◌, ◌||◌, cond, List, [], ◌∷◌, ◌++◌, map, length, Option, None, Some, refl, sym, ap, ◌∙◌, arith, subst}
+use Rattle.std.proofs.Common.{◌≡◌, ℕ, ◌≤◌, ◌==◌, Bool, true, false, ◌||◌, cond, List, [], ◌∷◌, ◌++◌, Some, refl, sym, ap, ◌∙◌, arith, subst}
 use Rattle.std.proofs.lemmas.Bool.{and_parts}
-use Rattle.std.proofs.lemmas.Bool.Decides.{nat_tests}
-use Rattle.std.specs.List.{AllByRecursion}
 use Rattle.container_seg.specs.Scans.{comes_after}
 use Rattle.grid_base.specs.Datum.{same_bytes, same_datum, same_entry}
 use Rattle.grid_base.specs.declared.datum.Datum.{Datum}
@@ -17,8 +15,8 @@ use Rattle.local_publisher.specs.declared.unit_state.UnitState.{UnitState}
 use Rattle.local_publisher.specs.declared.unit_state.UnitState.TheVariants.{Asked, Running, Refused, Lost, Ended}
 use Rattle.segment_hash.specs.Segments.{segment_number}
 use Rattle.cluster_model.specs.Completion.{StoodSinceBegin, begins}
-use Rattle.cluster_model.specs.Evidence.{entry_times, how_many, times}
-use Rattle.cluster_model.specs.State.{Unit, is_asked, is_ended, is_running}
+use Rattle.cluster_model.specs.Evidence.{entry_times, times}
+use Rattle.cluster_model.specs.State.{is_asked, is_ended, is_running}
 use Rattle.cluster_model.specs.Units.{last_key}
 use Rattle.cluster_laws.proofs.Lists.{how_many-append, how_many_le}
 
@@ -143,9 +141,11 @@ read_more config past id segment node entries batch before last stage runs b r =
   where
     open_yet : has_ended past id ≡ false
     open_yet = r.told ∙ running_open stage runs
+
     once_more : (key : List ℕ) (p : Bool) → comes_after node (last_key entries) key ≡ p → times key (entries ++ batch) ≤ 1
     once_more key true e = let a = how_many-append (λ (x : Entry). same_bytes x.key key) entries batch in let x = r.behind key e in let y = b.once key in omega arith
     once_more key false e = let a = how_many-append (λ (x : Entry). same_bytes x.key key) entries batch in let x = r.once key in let y = b.fresh key e in omega arith
+
     read_one : reads_in stage ≡ true → (key : List ℕ) (datum : Datum) → segment_number config.partition config.segments key ≡ Some segment → StoodSinceBegin config past id key datum →
         comes_after node (last_key (entries ++ batch)) key ≡ false → (p : Bool) → comes_after node (last_key entries) key ≡ p → entry_times key datum (entries ++ batch) ≡ 1
     read_one n key datum s stood q true e =

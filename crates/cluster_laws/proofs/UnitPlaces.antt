@@ -1,33 +1,25 @@
 -- Where open units are: at live nodes, and those that run at nodes that read their segment.
-use Rattle.std.proofs.Common.{◌≡◌, ℕ, suc, ◌+◌, ◌≤◌, ◌<◌, ◌==◌, nat_lt, Bool, true, false, not, ◌&&◌, ◌||◌, cond, List, [], ◌∷◌, ◌++◌, map, length, Option, None, Some, refl, sym, ap, ◌∙◌, arith, subst, if◌then◌else◌, unwrap_or}
+use Rattle.std.proofs.Common.{◌≡◌, ℕ, ◌+◌, ◌==◌, nat_lt, Bool, true, false, not, ◌&&◌, ◌||◌, cond, List, [], ◌∷◌, map, None, Some, refl, sym, ap, ◌∙◌, if◌then◌else◌, unwrap_or}
 use Rattle.std.proofs.lemmas.Bool.{and_parts, eqb-true}
-use Rattle.std.proofs.lemmas.Bool.Decides.{nat_tests}
 use Rattle.std.specs.Bool.{beq}
-use Rattle.std.specs.List.{AllByRecursion, filter, find, list_all, list_any}
+use Rattle.std.specs.List.{AllByRecursion, find, list_all, list_any}
 use Rattle.std.specs.FinSet as set_of
 use Rattle.grid_event.specs.declared.call_events.RoundEvent.{RoundEvent}
-use Rattle.grid_event.specs.declared.event.Event.{Event}
-use Rattle.grid_event.specs.declared.event.Event.TheVariants.{Write, Erase, Tick, Join, Depart, Announce, Install, Copy, Land, Invoke, Round, Begin, Scan, Fetch, Take, Done, Answer}
 use Rattle.local_publisher.specs.Stages.{is_open}
-use Rattle.local_publisher.specs.Units.{begun, ended, extended}
 use Rattle.local_publisher.specs.declared.unit_state.UnitState.{UnitState}
 use Rattle.local_publisher.specs.declared.unit_state.UnitState.TheVariants.{Asked, Running, Refused, Lost, Ended}
-use Rattle.topology_coord.proofs.MemberLaws.{installed-joins, lives-departs, lives-installs, lives-joins, topology-announces, topology-departs, topology-installs, topology-joins, topology_newest}
-use Rattle.topology_coord.specs.Changes.{announces, departs, installs, joins, may_join}
-use Rattle.topology_coord.specs.Coordination.{Coordination, all_installed, first_live, installed_id, lives, some_live, topology_of}
+use Rattle.topology_coord.proofs.MemberLaws.{lives-departs, lives-installs, lives-joins, topology-departs, topology-installs, topology-joins}
+use Rattle.topology_coord.specs.Changes.{departs, installs, joins, may_join}
+use Rattle.topology_coord.specs.Coordination.{Coordination, installed_id, lives, topology_of}
 use Rattle.topology_phase.specs.Owners.{among}
-use Rattle.topology_phase.specs.Topologies.{Topology, read_owners}
-use Rattle.cluster_model.proofs.Frames.{coord_stays, units_stays}
-use Rattle.cluster_model.specs.Calls.{all_complete, asks_from, first_reader, granted, has_caught_up, has_open, incomplete, is_due, rounded, unit_asked}
+use Rattle.topology_phase.specs.Topologies.{read_owners}
+use Rattle.cluster_model.specs.Calls.{all_complete, asks_from, granted, has_caught_up, has_open, incomplete, is_due, unit_asked}
 use Rattle.cluster_model.specs.Kept.{KeepsTopologies}
-use Rattle.cluster_model.specs.State.{Call, State, Unit, call_of, goes_on, is_asked, is_ended, is_open_unit, is_running, unit_of, with_loss, with_unit}
-use Rattle.cluster_model.specs.Step.{allowed, changed}
-use Rattle.cluster_model.specs.Topologies.{announced, can_announce, can_install, can_join, ceases, departed, installed, joined, next_topology}
-use Rattle.cluster_model.specs.Units.{begun_unit, can_begin, can_begin_unit, can_end, can_end_unit, can_fetch, can_read, can_scan, can_take, can_take_unit, call_of_unit, ended_unit, fetched, reads, scanned, taken_by, with_begin}
+use Rattle.cluster_model.specs.State.{Call, State, Unit, call_of, goes_on, is_asked, is_open_unit, is_running, with_loss, with_unit}
+use Rattle.cluster_model.specs.Topologies.{ceases}
+use Rattle.cluster_model.specs.Units.{can_begin_unit, reads, with_begin}
 use Rattle.cluster_model.specs.Writes.{has_reader}
-use Rattle.cluster_laws.proofs.Lists.{each-append, each_both, each_changed, each_imply}
-use Rattle.cluster_laws.proofs.Numbers.{NumberedFrom}
-use Rattle.cluster_laws.proofs.UnitFacts.{CanRound, each_named, round_facts}
+use Rattle.cluster_laws.proofs.Lists.{each_changed, each_imply}
 
 -- an open unit's node lives; and while the unit runs, its node reads its segment by the topology that it has installed
 pub record IsPlaced (c : Coordination) (node segment : ℕ) (stage : UnitState) : Type 0 where
@@ -70,6 +62,7 @@ joins_placed segments c node units h may = each_imply (Placed c) (Placed (joins 
         either_way : (b : Bool) → (b || true) ≡ true
         either_way true = refl
         either_way false = refl
+
     other : (n : ℕ) → lives c n ≡ true → (n == node) ≡ false
     other n l = apart (n == node) refl
       where
@@ -78,6 +71,7 @@ joins_placed segments c node units h may = each_imply (Placed c) (Placed (joins 
         apart true e =
             let there : set_of.contains c.ever node ≡ true = ap (set_of.contains c.ever) (sym (eqb-true n node e)) ∙ h.member n l in
             let never = (and_parts (not (set_of.contains c.ever node)) _ may).0 in absurd (cc)
+
     same : (n : ℕ) → lives c n ≡ true → topology_of (joins c node) n ≡ topology_of c n
     same n l = topology-joins c node n ∙ ap (λ b. cond b c.newest (topology_of c n)) (other n l)
 
@@ -95,6 +89,7 @@ departs_one c node unit p = by_test (is_open_unit unit && (unit.work.node == nod
             right_of : (a b : Bool) → a ≡ true → (a && b) ≡ false → b ≡ false
             right_of true b o t = t
             right_of false b o t = absurd (cc)
+
         on : is_open unit.work.state ≡ true → lives (departs c node) unit.work.node ≡ true
         on o = lives-departs c node unit.work.node ∙ ap (λ b. not b && lives c unit.work.node) (elsewhere o) ∙ p.live o
 
@@ -114,6 +109,7 @@ installs_one st node id unit p = by_test (ceases st node unit) refl
         either_way : (b : Bool) → (b || true) ≡ true
         either_way true = refl
         either_way false = refl
+
         by_node : (b : Bool) → (unit.work.node == node) ≡ b → is_running unit.work.state ≡ true →
             among unit.work.node (read_owners (cond b st.coord.newest (topology_of st.coord unit.work.node)) unit.work.segment) ≡ true
         by_node false e r = p.reading r
@@ -140,9 +136,10 @@ pub asked_placed : (st : State) (r : RoundEvent) (originator n : ℕ) (segments 
     AllPlaced st.coord (map (unit_asked r) (asks_from st originator n segments))
 asked_placed st r originator n [] h = tt
 asked_placed st r originator n (segment ∷ segments) h =
-    let p = and_parts (has_reader st originator segment) (list_all (has_reader st originator) segments) h in
-    (record { live = λ o. found_lives (lives st.coord) (read_owners (topology_of st.coord originator) segment) p.0; reading = λ q. absurd (cc) },
-    asked_placed st r originator (n + 1) segments p.1)
+    let p = and_parts (has_reader st originator segment) (list_all (has_reader st originator) segments) h in (
+      record { live = λ o. found_lives (lives st.coord) (read_owners (topology_of st.coord originator) segment) p.0; reading = λ q. absurd (cc) },
+      asked_placed st r originator (n + 1) segments p.1,
+    )
 
 pub due_readers : (st : State) (number : ℕ) (call : Call) → is_due st number call ≡ true → list_all (has_reader st call.originator) (incomplete st number) ≡ true
 due_readers st number call h =
@@ -191,6 +188,7 @@ begin_placed st number runs unit test here p =
     asked_opens (Refused at) h = absurd (cc)
     asked_opens (Lost at) h = absurd (cc)
     asked_opens Ended h = absurd (cc)
+
     by_runs : (runs : Bool) → runs ≡ reads st unit → is_open unit.work.state ≡ true → IsPlaced st.coord unit.work.node unit.work.segment (if runs then Running else Refused (installed_id st.coord unit.work.node))
     by_runs true e o = record { live = λ h. p.live o; reading = λ h. sym e }
     by_runs false e o = closed st.coord unit.work.node unit.work.segment (Refused (installed_id st.coord unit.work.node)) refl refl

@@ -1,7 +1,6 @@
 -- The event that a command chooses may happen.
-use Rattle.std.proofs.Common.{◌≡◌, ℕ, ◌+◌, Bool, true, false, List, [], ◌∷◌, map, Option, None, Some, refl, sym, ap, ◌∙◌, if◌then◌else◌, unwrap_or}
+use Rattle.std.proofs.Common.{◌≡◌, ℕ, ◌+◌, Bool, true, false, List, [], ◌∷◌, Option, None, Some, refl, sym, ap, ◌∙◌, if◌then◌else◌, unwrap_or}
 use Rattle.std.specs.Option.{option_map, option_and_then}
-use Rattle.grid_base.specs.declared.entry.Entry.{Entry}
 use Rattle.grid_event.specs.declared.command.Command.{Command}
 use Rattle.grid_event.specs.declared.command.Command.TheVariants.{Put, Erase, Tick, Join, Depart, Announce, Install, Copy, Land, Call, Round, Begin, Scan, Fetch, Take, Done, Answer, Advance, Drive, Serve}
 use Rattle.grid_event.specs.declared.event.Event.{Event}
@@ -9,14 +8,11 @@ use Rattle.grid_event.specs.declared.event.Event.TheVariants as events
 use Rattle.topology_coord.specs.Coordination.{live_nodes}
 use Rattle.topology_coord.specs.Following.{cancels}
 use Rattle.topology_phase.specs.Topologies.{Topology}
-use Rattle.cluster_model.specs.State.{State, Unit, call_of, is_open_unit, segments_of, unit_of}
-use Rattle.cluster_model.specs.State as states
+use Rattle.cluster_model.specs.State.{State, Unit, call_of, segments_of}
 use Rattle.cluster_model.specs.Topologies.{next_topology}
-use Rattle.cluster_model.specs.Transfers.{next_chunk_of, provider}
 use Rattle.cluster_model.specs.Units.{next_batch, reads, walks}
-use Rattle.cluster_model.specs.Answers.{outcome_of}
 use Rattle.cluster_model.specs.Step.{allowed}
-use Rattle.cluster_model.specs.Commands.{advance_event, announce_event, answer_event, begin_event, cancel_event, cancel_with, chosen, copy_event, destinations, done_event, drive_event, fetch_event, first_some, if_allowed, if_any_allowed, install_event, is_unanswered, land_event, newest_unit, of_newest, open_units, or_else, round_event, round_with, scan_event, serve_event, served_event, take_event, take_with, unit_event, units_at}
+use Rattle.cluster_model.specs.Commands.{advance_event, announce_event, answer_event, begin_event, cancel_event, cancel_with, chosen, copy_event, destinations, done_event, drive_event, fetch_event, first_some, if_allowed, if_any_allowed, install_event, is_unanswered, land_event, newest_unit, open_units, or_else, round_event, round_with, scan_event, serve_event, served_event, take_event, take_with, unit_event, units_at}
 
 -- what there is may happen
 abbrev pub MayHappen : State → Option Event → Type 0

@@ -1,8 +1,8 @@
 -- The state after an event is one.
-use Rattle.std.proofs.Common.{◌≡◌, Bool, true, false, Option, None, Some, refl, sym, ap, ◌∙◌, if◌then◌else◌, unwrap_or}
+use Rattle.std.proofs.Common.{◌≡◌, None, Some, sym, ap, ◌∙◌, if◌then◌else◌, unwrap_or}
 use Rattle.grid_event.specs.declared.event.Event.{Event}
 use Rattle.cluster_model.specs.State.{State}
-use Rattle.cluster_model.specs.Step.{after, allowed, changed}
+use Rattle.cluster_model.specs.Step.{after, changed}
 use Rattle.cluster_model.specs.Laws.{StepsAreFunctional}
 
 one : (st a b : State) (event : Event) → after st event ≡ Some a → after st event ≡ Some b → a ≡ b

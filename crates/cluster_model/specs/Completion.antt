@@ -11,7 +11,7 @@ use Rattle.grid_event.specs.declared.event.Event.{Event}
 use Rattle.grid_event.specs.declared.event.Event.TheVariants.{Begin}
 use Rattle.segment_hash.specs.Segments.{segment_number}
 use Rattle.cluster_model.specs.Evidence.{entry_times}
-use Rattle.cluster_model.specs.State.{State, Unit, is_ended, is_running, start}
+use Rattle.cluster_model.specs.State.{Unit, is_ended, is_running, start}
 use Rattle.cluster_model.specs.Step.{runs, state}
 use Rattle.cluster_model.specs.Units.{last_key}
 
