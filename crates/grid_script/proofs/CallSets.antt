@@ -1,6 +1,5 @@
 -- Sets of calls that are held as marks.
-use Rattle.std.proofs.Common.{◌≡◌, ℕ, zero, suc, Bool, false, List, [], ◌∷◌, replicate, refl, ap, ◌∙◌}
-use Rattle.std.specs.Ordering.{nat_cmp}
+use Rattle.std.proofs.Common.{◌≡◌, ℕ, zero, suc, Bool, false, List, replicate, refl, ap, ◌∙◌}
 use Rattle.std.specs.FinSet as set
 use Rattle.segment_hash.specs.Marked.{marked_from}
 

@@ -1,10 +1,10 @@
 -- How bytes are cut into lines.
-use Rattle.std.proofs.Common.{◌≡◌, ◌≢◌, ℕ, suc, ◌+◌, ◌-◌, ◌<◌, ◌≤◌, Bool, true, false, cond, List, [], ◌∷◌, ◌++◌, length, take, drop, get_or, Option, Some, None, refl, sym, ap, ◌∙◌, arith}
+use Rattle.std.proofs.Common.{◌≡◌, ◌≢◌, ℕ, suc, ◌+◌, ◌-◌, ◌<◌, ◌≤◌, true, false, cond, List, [], ◌∷◌, ◌++◌, length, take, drop, get_or, Some, None, refl, sym, ap, ◌∙◌, arith}
 use Rattle.std.proofs.lemmas.Bool.{ne_eqb}
 use Rattle.std.proofs.lemmas.Bool.Decides.{nat_tests}
 use Rattle.std.proofs.lemmas.List.{drop_more, get_or-take, length-take, take-append-drop, take_rest}
-use Rattle.memchr.specs.Find.{IsFirstByte, NoneBefore, Nowhere, Passes, is_byte}
-use Rattle.grid_script.specs.Lines.{Line, before_lines, lines_of}
+use Rattle.memchr.specs.Find.{IsFirstByte, is_byte}
+use Rattle.grid_script.specs.Lines.{before_lines, lines_of}
 
 -- no line feed stands in the bytes
 abbrev IsFree : List ℕ → Type 0
@@ -38,12 +38,12 @@ first_of text at found =
     let here : get_or text at 0 ≡ 10 = grind (arith, nat_tests, found.1) in
     let size : length (take at text) ≤ at = omega (arith, length-take at text) in
     let free : IsFree (take at text) = free_by_places (take at text) (λ k below same.
-        let before : get_or text k 0 ≡ 10 = sym (get_or-take at text k 0 (omega arith)) ∙ same in
-        first.before k (omega arith) (omega arith) (grind (arith, nat_tests, before))) in
+    let before : get_or text k 0 ≡ 10 = sym (get_or-take at text k 0 (omega arith)) ∙ same in
+    first.before k (omega arith) (omega arith) (grind (arith, nat_tests, before))) in
     let joined : take at text ++ 10 ∷ take (length text - (at + 1)) (drop (at + 1) text) ≡ text =
-        ap (λ rest. take at text ++ 10 ∷ rest) (take_rest text (at + 1))
-        ∙ (ap (λ c. take at text ++ c ∷ drop (at + 1) text) (sym here)
-        ∙ (ap (λ rest. take at text ++ rest) (sym (drop_more text at 0 first.high)) ∙ take-append-drop at text)) in
+    ap (λ rest. take at text ++ 10 ∷ rest) (take_rest text (at + 1))
+    ∙ (ap (λ c. take at text ++ c ∷ drop (at + 1) text) (sym here)
+    ∙ (ap (λ rest. take at text ++ rest) (sym (drop_more text at 0 first.high)) ∙ take-append-drop at text)) in
     ap lines_of (sym joined) ∙ cut (take at text) (take (length text - (at + 1)) (drop (at + 1) text)) free
 
 -- where there is no line feed, all is one line

@@ -1,12 +1,12 @@
 -- How one line after the other is followed.
-use Rattle.std.proofs.Common.{◌≡◌, ℕ, suc, ◌+◌, List, [], ◌∷◌, Option, Some, None, Result, Ok, Err, refl, sym, ap, ◌∙◌, arith}
+use Rattle.std.proofs.Common.{◌≡◌, ℕ, suc, ◌+◌, List, ◌∷◌, Some, None, Ok, Err, sym, ap, ◌∙◌, arith}
 use Rattle.grid_event.specs.declared.config.Config.{Config}
 use Rattle.grid_script.specs.declared.head_words.Setting.{Setting}
 use Rattle.grid_script.specs.declared.reason.Reason.{Reason}
 use Rattle.grid_script.specs.Judging.{Judged, ◌>>=◌, on_line}
 use Rattle.grid_script.specs.Lines.{Line}
 use Rattle.grid_script.specs.Reading.{after_all}
-use Rattle.grid_script.specs.Settings.{Behind, found_or, setting_from, setting_line_in}
+use Rattle.grid_script.specs.Settings.{found_or, setting_from, setting_line_in}
 
 one_more : (n : ℕ) → n + 1 ≡ suc n
 one_more n = omega arith

@@ -1,8 +1,8 @@
 -- How orders are numbered one behind the other.
-use Rattle.std.proofs.Common.{◌≡◌, ℕ, suc, ◌+◌, List, [], ◌∷◌, ◌++◌, length, refl, sym, ap, ◌∙◌, arith, append_assoc}
+use Rattle.std.proofs.Common.{◌≡◌, ℕ, suc, ◌+◌, List, [], ◌∷◌, ◌++◌, length, refl, ap, ◌∙◌, arith, append_assoc}
 use Rattle.grid_script.specs.declared.order.Order.{Order}
 use Rattle.grid_script.specs.declared.step_line.StepLine.{StepLine}
-use Rattle.grid_script.specs.Generating.{drawn, key_order, key_orders, numbered, quarter, state_after, step_order, step_orders}
+use Rattle.grid_script.specs.Generating.{numbered}
 
 -- as many lines as orders
 numbered_length : (n : ℕ) (orders : List Order) → length (numbered n orders) ≡ length orders

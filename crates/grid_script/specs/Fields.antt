@@ -1,10 +1,9 @@
 -- The fields of a line: numbers, keys, values and pipelines, with a blank behind or as the line's last.
-use Rattle.std.specs.Prelude.{ℕ, suc, ◌+◌, List, [], ◌∷◌, length, Result, Ok, Err, codes, Option, Some, None, nat_le, if◌then◌else◌}
+use Rattle.std.specs.Prelude.{ℕ, suc, ◌+◌, List, [], ◌∷◌, length, Result, Ok, Err, codes, nat_le, if◌then◌else◌}
 use Rattle.grid_base.specs.declared.limits.TheConstants.{LONGEST_LINE}
-use Rattle.grid_base.specs.declared.datum.Datum.{Datum}
 use Rattle.pipeline_expr.specs.declared.pipeline.Pipeline.{Pipeline}
 use Rattle.pipeline_parse.specs.Parsing.{pipeline_at}
-use Rattle.pipeline_parse.specs.Reading.{Read, ◌>>=◌, datum_at, key_at, literal_at, number_at}
+use Rattle.pipeline_parse.specs.Reading.{Read, ◌>>=◌, key_at, literal_at, number_at}
 
 -- the blank between two fields
 abbrev pub blank_at : List ℕ → Result (List ℕ) ℕ

@@ -1,10 +1,9 @@
 -- The scripts of the generator.
-use Rattle.std.specs.Prelude.{ℕ, zero, suc, ◌+◌, ◌-◌, ◌*◌, ◌/◌, ◌%◌, ◌^◌, List, [], ◌∷◌, ◌++◌, length, codes, decimal, Option, Some, None, ℤ, pos, negsuc, ◌==◌, if◌then◌else◌}
+use Rattle.std.specs.Prelude.{ℕ, zero, suc, ◌+◌, ◌*◌, ◌/◌, ◌%◌, ◌^◌, List, [], ◌∷◌, ◌++◌, codes, decimal, None, ℤ, pos, negsuc, ◌==◌, if◌then◌else◌}
 use Rattle.delivery_mode.specs.declared.guarantee.Guarantee.TheVariants.{Exact}
 use Rattle.grid_base.specs.declared.datum.Datum.TheVariants as datum
 use Rattle.grid_event.specs.declared.command.Command.TheVariants as command
 use Rattle.grid_event.specs.declared.config.Config.{Config}
-use Rattle.grid_event.specs.declared.request.Request.{Request}
 use Rattle.pipeline_expr.specs.declared.end.End.{End}
 use Rattle.pipeline_expr.specs.declared.end.End.TheVariants as end
 use Rattle.pipeline_expr.specs.declared.expr.Expr.TheVariants as expr

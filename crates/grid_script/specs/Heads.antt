@@ -1,13 +1,12 @@
 -- What the calls that read the head of a script tell.
-use Rattle.std.specs.Prelude.{◌≡◌, List, Option, Some, None, Result, Ok, Err, if◌then◌else◌}
+use Rattle.std.specs.Prelude.{◌≡◌, Result, Ok, Err}
 use Rattle.grid_event.specs.declared.config.Config.{Config}
-use Rattle.grid_script.specs.declared.head_words.Setting.{Setting}
 use Rattle.grid_script.specs.declared.script_fault.ScriptFault.{ScriptFault}
 use Rattle.grid_script.specs.declared.script_fault.ScriptFault.TheVariants.{Refused, NoMemory}
 use Rattle.grid_script.specs.declared.settings.Head.{Head}
-use Rattle.grid_script.specs.Judging.{Judged, Told, ◌>>=◌}
-use Rattle.grid_script.specs.Lines.{Line, is_whole, lines_of, says_nothing}
-use Rattle.grid_script.specs.Settings.{Behind, setting_in}
+use Rattle.grid_script.specs.Judging.{Told}
+use Rattle.grid_script.specs.Lines.{lines_of}
+use Rattle.grid_script.specs.Settings.{Behind}
 
 -- the settings, and the lines behind them
 abbrev pub behind_of : Head → Behind Config

@@ -1,5 +1,5 @@
 -- The lines of a script.
-use Rattle.std.specs.Prelude.{ℕ, suc, Bool, true, false, not, ◌==◌, nat_le, List, [], ◌∷◌, length, if◌then◌else◌}
+use Rattle.std.specs.Prelude.{ℕ, Bool, true, false, ◌==◌, nat_le, List, [], ◌∷◌, length, if◌then◌else◌}
 use Rattle.grid_base.specs.declared.limits.TheConstants.{LONGEST_LINE}
 use Rattle.grid_script.specs.declared.reason.Reason.TheVariants.{OverLimit, Syntax}
 use Rattle.grid_script.specs.Judging.{Judged, ◌>>=◌, needs}

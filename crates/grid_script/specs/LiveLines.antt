@@ -1,7 +1,6 @@
 -- The lines of a script of a live run: a definition for each kind of line, in the order in which its faults are told.
-use Rattle.std.specs.Prelude.{◌≡◌, ℕ, suc, ◌+◌, ◌≤◌, Bool, true, false, ◌&&◌, ◌==◌, nat_le, nat_lt, List, [], ◌∷◌, ◌++◌, length, Result, Ok, Err, if◌then◌else◌}
+use Rattle.std.specs.Prelude.{ℕ, ◌+◌, ◌≤◌, Bool, true, false, ◌&&◌, ◌==◌, nat_le, nat_lt, List, [], ◌∷◌, ◌++◌, length, Ok, Err, if◌then◌else◌}
 use Rattle.std.specs.FinSet as set
-use Rattle.grid_base.specs.declared.datum.Datum.{Datum}
 use Rattle.grid_base.specs.declared.entry.Entry.{Entry}
 use Rattle.grid_base.specs.declared.limits.TheConstants.{LAST_CALL}
 use Rattle.pipeline_parse.specs.Reading.{datum_at}
@@ -193,27 +192,52 @@ section_with other deed = other
 -- what is known, with other members
 unfoldable pub with_members : LiveKnown → Members → LiveKnown
 with_members known members = record {
-  config = known.config; members = members; calls = known.calls; section = known.section;
-  load = known.load; changes = known.changes; sessions = known.sessions;
+  config = known.config;
+  members = members;
+  calls = known.calls;
+  section = known.section;
+  load = known.load;
+  changes = known.changes;
+  sessions = known.sessions;
 }
 
 -- what is known behind a line that tells this
 unfoldable pub with_told : LiveKnown → LiveTold → LiveKnown
 with_told known (Opens next) = record {
-  config = known.config; members = known.members; calls = known.calls; section = next;
-  load = known.load; changes = known.changes; sessions = all_sessions known.sessions known.section;
+  config = known.config;
+  members = known.members;
+  calls = known.calls;
+  section = next;
+  load = known.load;
+  changes = known.changes;
+  sessions = all_sessions known.sessions known.section;
 }
 with_told known (Changes change) = record {
-  config = known.config; members = members_with known.members change; calls = known.calls; section = known.section;
-  load = known.load; changes = known.changes ++ change ∷ []; sessions = known.sessions;
+  config = known.config;
+  members = members_with known.members change;
+  calls = known.calls;
+  section = known.section;
+  load = known.load;
+  changes = known.changes ++ change ∷ [];
+  sessions = known.sessions;
 }
 with_told known (Loads it) = record {
-  config = known.config; members = known.members; calls = known.calls; section = known.section;
-  load = known.load ++ it ∷ []; changes = known.changes; sessions = known.sessions;
+  config = known.config;
+  members = known.members;
+  calls = known.calls;
+  section = known.section;
+  load = known.load ++ it ∷ [];
+  changes = known.changes;
+  sessions = known.sessions;
 }
 with_told known (Does done) = record {
-  config = known.config; members = known.members; calls = calls_with known.calls done; section = section_with known.section done;
-  load = known.load; changes = known.changes; sessions = known.sessions;
+  config = known.config;
+  members = known.members;
+  calls = calls_with known.calls done;
+  section = section_with known.section done;
+  load = known.load;
+  changes = known.changes;
+  sessions = known.sessions;
 }
 
 -- the numbers that are noted of what a line tells are in their limits

@@ -1,5 +1,5 @@
 -- The script that bytes stand for, or the first line at fault with the first reason that applies to it.
-use Rattle.std.specs.Prelude.{ℕ, zero, suc, ◌<◌, Bool, nat_lt, List, [], ◌∷◌, ◌++◌, length, Result, Ok, Err, if◌then◌else◌}
+use Rattle.std.specs.Prelude.{ℕ, zero, suc, nat_lt, List, [], ◌∷◌, length, Ok, Err, if◌then◌else◌}
 use Rattle.std.specs.Ordering.{nat_cmp}
 use Rattle.std.specs.FinSet as set
 use Rattle.grid_base.specs.declared.limits.TheConstants.{LONGEST_SCRIPT}
@@ -50,15 +50,23 @@ step_start config = record { config = config; members = first_members config.nod
 -- what is known of a live run before its first line
 abbrev pub live_start : Config → LiveKnown
 live_start config = record {
-  config = config; members = first_members config.nodes; calls = set.empty; section = Start;
-  load = []; changes = []; sessions = [];
+  config = config;
+  members = first_members config.nodes;
+  calls = set.empty;
+  section = Start;
+  load = [];
+  changes = [];
+  sessions = [];
 }
 
 -- the script of the lines behind the head
 unfoldable pub body_of : ScriptKind → Behind Config → Told Script
 body_of kind.Step head = after_all step_after (step_start head.it) head.next head.lines >>= (λ known. Ok (script.Step (record { config = known.config; lines = known.lines })))
 body_of kind.Live head = after_all live_after (live_start head.it) head.next head.lines >>= (λ known. Ok (script.Live (record {
-  config = known.config; load = known.load; changes = known.changes; sessions = all_sessions known.sessions known.section;
+  config = known.config;
+  load = known.load;
+  changes = known.changes;
+  sessions = all_sessions known.sessions known.section;
 })))
 
 -- the script of a kind for which bytes stand, or the line at fault and its reason; of too many bytes that is line 0

@@ -1,5 +1,5 @@
 -- The head of a script: its kind, and the settings of the cluster in their order.
-use Rattle.std.specs.Prelude.{ℕ, suc, Bool, true, false, List, [], ◌∷◌, Option, Some, None, Result, Ok, Err, codes, if◌then◌else◌}
+use Rattle.std.specs.Prelude.{ℕ, suc, Bool, true, false, List, [], ◌∷◌, Option, Some, None, Ok, Err, codes, if◌then◌else◌}
 use Rattle.grid_base.specs.declared.limits.TheConstants.{MOST_CHUNK, MOST_NODES, MOST_OWNERS, MOST_SEGMENTS}
 use Rattle.grid_event.specs.declared.config.Config.{Config}
 use Rattle.segment_hash.specs.declared.partition.Partition.{Partition}

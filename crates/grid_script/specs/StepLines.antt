@@ -1,11 +1,9 @@
 -- The lines of a script of a stepped run: a definition for each kind of line, in the order in which its faults are told.
-use Rattle.std.specs.Prelude.{◌≡◌, ℕ, ◌+◌, ◌≤◌, Bool, true, false, List, [], ◌∷◌, ◌++◌, length, Option, Some, None, Result, Ok, Err, codes, if◌then◌else◌}
+use Rattle.std.specs.Prelude.{ℕ, ◌+◌, ◌≤◌, List, [], ◌∷◌, ◌++◌, Option, Some, None, Ok, codes}
 use Rattle.std.specs.FinSet as set
-use Rattle.grid_base.specs.declared.entry.Entry.{Entry}
 use Rattle.grid_base.specs.declared.limits.TheConstants.{LAST_CALL, LAST_CLOCK}
-use Rattle.grid_event.specs.declared.command.Command.{Command}
 use Rattle.grid_event.specs.declared.command.Command.TheVariants as command
-use Rattle.pipeline_parse.specs.Reading.{datum_at, key_at, literal_at, number_at}
+use Rattle.pipeline_parse.specs.Reading.{datum_at, literal_at}
 use Rattle.grid_script.specs.declared.asked.Asked.{Asked}
 use Rattle.grid_script.specs.declared.known.Known.{Known}
 use Rattle.grid_script.specs.declared.members.Members.{Members}
@@ -24,7 +22,7 @@ use Rattle.grid_script.specs.declared.words.UnitWord.TheVariants as units
 use Rattle.grid_script.specs.declared.words.BareWord.{BareWord}
 use Rattle.grid_script.specs.declared.words.BareWord.TheVariants as bare
 use Rattle.grid_script.specs.Fields.{end_at, key_field, last_key, last_number, number_field, pipeline_of}
-use Rattle.grid_script.specs.Judging.{Judged, ◌>>=◌, needs, spelt}
+use Rattle.grid_script.specs.Judging.{Judged, ◌>>=◌, spelt}
 use Rattle.grid_script.specs.Rules.{call_within, has_kind, has_segment, is_live, is_made, is_new, is_typed, lifespan_within, may_depart, may_join, node_within, request_within, segment_within, ticks_within, with_departed, with_joined}
 use Rattle.grid_script.specs.Sets.{Calls}
 use Rattle.grid_script.specs.Words.{guarantee_at, step_word_at}

@@ -7,7 +7,9 @@ use crate::order::Order;
 use crate::step_line::StepLine;
 use crate::step_script::StepScript;
 use grid_base::{Bytes, CallId, Datum, Key, NoMemory, NodeId, SessionId};
-use grid_event::{Command, Config, End, Expr, Guarantee, Op, Partition, Pipeline, Request, ValueKind};
+use grid_event::{
+    Command, Config, End, Expr, Guarantee, Op, Partition, Pipeline, Request, ValueKind,
+};
 use itoa::Buffer;
 use sqlite_items::{Boxed, Items};
 use std::alloc::Global;

@@ -10,9 +10,13 @@ use crate::line_fault::LineFault;
 use crate::live_known::LiveKnown;
 use crate::live_told::LiveTold;
 use crate::member::Member;
-use crate::readers::{read_end, read_key_field, read_last_key, read_last_number, read_number_field};
+use crate::readers::{
+    read_end, read_key_field, read_last_key, read_last_number, read_number_field,
+};
 use crate::reason::Reason;
-use crate::rules::{call_within, has_kind, has_segment, is_new, is_typed, needs, node_within, request_within};
+use crate::rules::{
+    call_within, has_kind, has_segment, is_new, is_typed, needs, node_within, request_within,
+};
 use crate::section::Section;
 use crate::session::Session;
 use crate::step_lines::read_asked;
@@ -268,7 +272,11 @@ fn read_live_fields(
 
 /// Reads what a line tells.
 #[tactic(auto, unfolding(crate::specs::LiveLines::told_in))]
-pub(crate) fn read_told(alloc: Global, known: &LiveKnown, text: &[u8]) -> Result<LiveTold, LineFault>
+pub(crate) fn read_told(
+    alloc: Global,
+    known: &LiveKnown,
+    text: &[u8],
+) -> Result<LiveTold, LineFault>
     requires { is_config known.now.config ≡ true }
     ensures judged { Says result (told_in known.now text.now) }
     ensures noted { IfOk result AreNoted }

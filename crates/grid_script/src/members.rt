@@ -43,7 +43,10 @@ impl Members {
     pub(crate) fn may_join(&self, node: NodeId) -> Result<(), LineFault>
         ensures { Says result (may_join self.now node) }
     {
-        needs(!self.ever.has(node) || self.live.has(node), Reason::NodeGone)?;
+        needs(
+            !self.ever.has(node) || self.live.has(node),
+            Reason::NodeGone,
+        )?;
         needs(!self.live.has(node), Reason::NodeTwice)
     }
 

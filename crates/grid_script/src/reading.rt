@@ -32,8 +32,8 @@ use crate::settings::read_head;
 use crate::step_line::StepLine;
 use crate::step_lines::read_order;
 use crate::step_script::StepScript;
-use grid_base::{Entry, NoMemory};
 use grid_base::limits::LONGEST_SCRIPT;
+use grid_base::{Entry, NoMemory};
 use grid_event::{Command, Config};
 use sqlite_items::Items;
 use std::alloc::Global;
@@ -129,12 +129,7 @@ fn step_start(alloc: Global, config: Config) -> Result<Known, NoMemory>
 }
 
 /// What is known behind some lines of a stepped run.
-fn steps_after(
-    alloc: Global,
-    known: Known,
-    number: u32,
-    text: &[u8],
-) -> Result<Known, ScriptFault>
+fn steps_after(alloc: Global, known: Known, number: u32, text: &[u8]) -> Result<Known, ScriptFault>
     requires settings { is_config known.config ≡ true }
     requires ticks { known.ticks ≤ LAST_CLOCK }
     requires lines { number + length text.now < 2 ^ 32 }
@@ -203,11 +198,13 @@ fn section_with(section: Section, deed: Deed) -> Result<Section, NoMemory>
     ensures { IfOk result (λ made. made ≡ section_with section deed) }
 {
     match section {
-        Section::Session(Session {
-            number,
-            home,
-            orders,
-        }) => {
+        Section::Session(
+            Session {
+                number,
+                home,
+                orders,
+            },
+        ) => {
             let mut orders = orders;
             orders.push(deed)?;
             Ok(Section::Session(Session {
@@ -221,10 +218,7 @@ fn section_with(section: Section, deed: Deed) -> Result<Section, NoMemory>
 }
 
 /// The sessions with that which was read last, if there is one.
-fn all_sessions(
-    complete: Items<Session>,
-    section: Section,
-) -> Result<Items<Session>, NoMemory>
+fn all_sessions(complete: Items<Session>, section: Section) -> Result<Items<Session>, NoMemory>
     ensures { IfOk result (λ made. made ≡ all_sessions complete section) }
 {
     match section {

@@ -12,9 +12,16 @@ use crate::known::Known;
 use crate::line_fault::LineFault;
 use crate::order::Order;
 use crate::put_words::PutWords;
-use crate::readers::{read_end, read_key_field, read_last_key, read_last_number, read_number_field, read_pipeline};
-use crate::rules::{call_within, has_kind, has_segment, is_made, is_new, is_typed, lifespan_within, node_within, request_within, segment_within, ticks_within};
-use crate::words::{BareWord, CallWord, CopyWord, StepWord, UnitWord, read_guarantee, read_step_word};
+use crate::readers::{
+    read_end, read_key_field, read_last_key, read_last_number, read_number_field, read_pipeline,
+};
+use crate::rules::{
+    call_within, has_kind, has_segment, is_made, is_new, is_typed, lifespan_within, node_within,
+    request_within, segment_within, ticks_within,
+};
+use crate::words::{
+    BareWord, CallWord, CopyWord, StepWord, UnitWord, read_guarantee, read_step_word,
+};
 use grid_base::{CallId, NodeId, SegmentId, SessionId};
 use grid_event::Command;
 use pipeline_parse::reading::{read_datum, read_literal};

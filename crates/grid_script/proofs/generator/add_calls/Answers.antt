@@ -1,4 +1,4 @@
-use Rattle.std.proofs.Common.{subst, ap, ◌∙◌, ◌++◌, ◌∷◌, [], ◌≡◌, List}
+use Rattle.std.proofs.Common.{subst, ◌∙◌, ◌++◌, ◌∷◌, [], ◌≡◌, List}
 use Rattle.std.specs.Prelude.{OnOk}
 use Rattle.grid_event.specs.declared.command.Command.TheVariants as command
 use Rattle.grid_script.specs.declared.order.Order.{Order}
@@ -24,5 +24,5 @@ returns c = λ before e.
     let g = c.in_ok-add-5.ensures four f in
     let all : five ++ One (command.Join c.new-3.result) ∷ [] ≡ before ++ calls_orders =
     six before spare count each (One (command.Round c.new.result)) (One (command.Round c.new-2.result)) (One (command.Join c.new-3.result))
-        ∙ (λ i. before ++ (c.in_ok-spare.ensures i ∷ c.in_ok-count.ensures i ∷ c.in_ok-each.ensures i ∷ One (command.Round (c.new.ensures i)) ∷ One (command.Round (c.new-2.ensures i)) ∷ One (command.Join (c.new-3.ensures i)) ∷ [])) in
+    ∙ (λ i. before ++ (c.in_ok-spare.ensures i ∷ c.in_ok-count.ensures i ∷ c.in_ok-each.ensures i ∷ One (command.Round (c.new.ensures i)) ∷ One (command.Round (c.new-2.ensures i)) ∷ One (command.Join (c.new-3.ensures i)) ∷ [])) in
     subst (λ orders. OnOk c.add-6.result (c.add-6.new.lines ≡ numbered 8 orders)) all (c.add-6.ensures five g)

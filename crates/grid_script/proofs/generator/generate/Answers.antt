@@ -18,5 +18,5 @@ returns c =
     let state : c.in_ok-state.state ≡ state_after c.args.seed c.args.keys = c.in_ok-state.ensures.state ∙ ap (λ s. state_after s c.args.keys) c.from.ensures in
     let all : c.add_end.new.lines ≡ numbered 8 (key_orders c.args.seed c.args.keys ++ (calls_orders ++ (step_orders (state_after c.args.seed c.args.keys) c.args.steps ++ last))) =
     f ∙ (ap (numbered 8) (regroup keys calls_orders steps last)
-        ∙ (λ i. numbered 8 (key_orders (c.from.ensures i) c.args.keys ++ (calls_orders ++ (step_orders (state i) c.args.steps ++ last))))) in
+    ∙ (λ i. numbered 8 (key_orders (c.from.ensures i) c.args.keys ++ (calls_orders ++ (step_orders (state i) c.args.steps ++ last))))) in
     λ i. record { config = c.settings.ensures i; lines = all i }
