@@ -4,3 +4,4 @@ pub mod CallSets
 pub mod Following
 pub mod Numbering
 pub mod Keeping
+pub mod Sessions

@@ -1,5 +1,5 @@
 -- The lines of a script of a live run: a definition for each kind of line, in the order in which its faults are told.
-use Rattle.std.specs.Prelude.{ℕ, ◌+◌, ◌≤◌, Bool, true, false, ◌&&◌, ◌==◌, nat_le, nat_lt, List, [], ◌∷◌, ◌++◌, length, Ok, Err, if◌then◌else◌}
+use Rattle.std.specs.Prelude.{◌≡◌, ℕ, ◌+◌, ◌≤◌, Bool, true, false, ◌&&◌, ◌==◌, nat_le, nat_lt, List, [], ◌∷◌, ◌++◌, length, Ok, Err, if◌then◌else◌}
 use Rattle.std.specs.FinSet as set
 use Rattle.grid_base.specs.declared.entry.Entry.{Entry}
 use Rattle.grid_base.specs.declared.limits.TheConstants.{LAST_CALL}
@@ -21,6 +21,7 @@ use Rattle.grid_script.specs.declared.words.LiveWord.TheVariants as live
 use Rattle.grid_script.specs.Fields.{end_at, key_field, last_key, last_number, number_field}
 use Rattle.grid_script.specs.Judging.{Judged, ◌>>=◌, needs, spelt}
 use Rattle.grid_script.specs.Rules.{call_within, has_kind, has_segment, is_new, is_typed, may_depart, may_join, node_within, request_within, with_departed, with_joined}
+use Rattle.grid_script.specs.Scripts.{are_numbered}
 use Rattle.grid_script.specs.Sets.{Calls}
 use Rattle.grid_script.specs.StepLines.{asked_in}
 use Rattle.grid_script.specs.Words.{live_word_at}
@@ -240,8 +241,28 @@ with_told known (Does done) = record {
   sessions = known.sessions;
 }
 
+-- the call of a deed is in its limits
+abbrev pub IsNotedDeed : Deed → Type 0
+IsNotedDeed (deed.Call call request) = call ≤ LAST_CALL
+IsNotedDeed _ = Unit {0}
+
+-- the node of a change is in its limits
+abbrev pub IsNotedMember : Member → Type 0
+IsNotedMember (member.Join node) = node ≤ 15
+IsNotedMember _ = Unit {0}
+
+-- a session that begins has the next number
+abbrev pub IsNextSection : ℕ → Section → Type 0
+IsNextSection begun (section.Session session) = session.number ≡ begun + 1
+IsNextSection begun _ = Unit {0}
+
 -- the numbers that are noted of what a line tells are in their limits
-abbrev pub AreNoted : LiveTold → Type 0
-AreNoted (Changes (member.Join node)) = node ≤ 15
-AreNoted (Does (deed.Call call request)) = call ≤ LAST_CALL
-AreNoted _ = Unit {0}
+abbrev pub AreNoted : LiveKnown → LiveTold → Type 0
+AreNoted known (Opens next) = IsNextSection (sessions_begun known.sessions known.section) next
+AreNoted known (Changes change) = IsNotedMember change
+AreNoted known (Loads it) = Unit {0}
+AreNoted known (Does done) = IsNotedDeed done
+
+-- the sessions that were begun have the numbers from 1 on
+abbrev pub IsNumbered : LiveKnown → Type 0
+IsNumbered known = are_numbered 1 (all_sessions known.sessions known.section) ≡ true

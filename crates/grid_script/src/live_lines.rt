@@ -2,6 +2,7 @@
 
 ghost use Rattle.std.specs.Prelude.{◌≡◌, ◌≤◌, ◌+◌, ◌==◌, ◌&&◌, nat_le, true, length, IfOk};
 ghost use Rattle.grid_event.specs.Configs.{is_config};
+ghost use Rattle.grid_script.specs.declared.live_known.LiveKnown.{LiveKnown};
 ghost use Rattle.grid_script.specs.Judging.{Says};
 ghost use Rattle.grid_script.specs.LiveLines.{AreNoted, all_sessions, changes_in, entry_in, home_within, is_changes, is_session, is_start, live_call_in, live_erase_in, live_fields_in, live_put_in, load_in, may_change, may_put, member_depart_in, member_join_in, put_told, session_in, session_within, sessions_begun, told_in};
 
@@ -76,7 +77,7 @@ fn may_put(section: &Section) -> bool
 #[tactic(auto, unfolding(crate::specs::LiveLines::load_in))]
 fn read_load(known: &LiveKnown, text: &[u8]) -> Result<LiveTold, LineFault>
     ensures judged { Says result (load_in known.now text.now) }
-    ensures noted { IfOk result AreNoted }
+    ensures noted { IfOk result (AreNoted known.now) }
 {
     read_end(text)?;
     needs(is_start(&known.section), Reason::Syntax)?;
@@ -87,7 +88,7 @@ fn read_load(known: &LiveKnown, text: &[u8]) -> Result<LiveTold, LineFault>
 #[tactic(auto, unfolding(crate::specs::LiveLines::changes_in))]
 fn read_changes(known: &LiveKnown, text: &[u8]) -> Result<LiveTold, LineFault>
     ensures judged { Says result (changes_in known.now text.now) }
-    ensures noted { IfOk result AreNoted }
+    ensures noted { IfOk result (AreNoted known.now) }
 {
     read_end(text)?;
     needs(may_change(&known.section), Reason::Syntax)?;
@@ -112,8 +113,10 @@ fn is_next_session(known: &LiveKnown, number: u32) -> bool
 }
 
 /// The session of the next number.
+#[tactic(auto, using(crate::proofs::Sessions::is_next))]
 fn session_within(known: &LiveKnown, number: u32) -> Result<SessionId, LineFault>
-    ensures { Says result (session_within (sessions_begun known.now.sessions known.now.section) number) }
+    ensures judged { Says result (session_within (sessions_begun known.now.sessions known.now.section) number) }
+    ensures next { IfOk result (λ n. n ≡ sessions_begun known.now.sessions known.now.section + 1) }
 {
     if is_next_session(known, number) {
         Ok(SessionId::new(number as u16))
@@ -139,7 +142,7 @@ fn home_within(nodes: u8, number: u32) -> Result<NodeId, LineFault>
 #[tactic(auto, unfolding(crate::specs::LiveLines::session_in))]
 fn read_session(alloc: Global, known: &LiveKnown, text: &[u8]) -> Result<LiveTold, LineFault>
     ensures judged { Says result (session_in known.now text.now) }
-    ensures noted { IfOk result AreNoted }
+    ensures noted { IfOk result (AreNoted known.now) }
 {
     let (first, rest) = read_number_field(text)?;
     let second = read_last_number(rest)?;
@@ -156,7 +159,7 @@ fn read_session(alloc: Global, known: &LiveKnown, text: &[u8]) -> Result<LiveTol
 #[tactic(auto, unfolding(crate::specs::LiveLines::member_join_in))]
 fn read_member_join(known: &LiveKnown, text: &[u8]) -> Result<LiveTold, LineFault>
     ensures judged { Says result (member_join_in known.now text.now) }
-    ensures noted { IfOk result AreNoted }
+    ensures noted { IfOk result (AreNoted known.now) }
 {
     needs(is_changes(&known.section), Reason::Syntax)?;
     let number = read_last_number(text)?;
@@ -169,7 +172,7 @@ fn read_member_join(known: &LiveKnown, text: &[u8]) -> Result<LiveTold, LineFaul
 #[tactic(auto, unfolding(crate::specs::LiveLines::member_depart_in))]
 fn read_member_depart(known: &LiveKnown, text: &[u8]) -> Result<LiveTold, LineFault>
     ensures judged { Says result (member_depart_in known.now text.now) }
-    ensures noted { IfOk result AreNoted }
+    ensures noted { IfOk result (AreNoted known.now) }
 {
     needs(is_changes(&known.section), Reason::Syntax)?;
     let number = read_last_number(text)?;
@@ -196,7 +199,7 @@ fn read_entry(alloc: Global, text: &[u8]) -> Result<Entry, LineFault>
 /// What a put tells: an entry of the load, or a deed of the session.
 fn put_told(section: &Section, entry: Entry) -> LiveTold
     ensures told { result ≡ put_told section.now entry }
-    ensures noted { AreNoted result }
+    ensures noted { (known : LiveKnown) → AreNoted known result }
 {
     match section {
         Section::Load => LiveTold::Loads(entry),
@@ -209,7 +212,7 @@ fn put_told(section: &Section, entry: Entry) -> LiveTold
 fn read_live_put(alloc: Global, known: &LiveKnown, text: &[u8]) -> Result<LiveTold, LineFault>
     requires { is_config known.now.config ≡ true }
     ensures judged { Says result (live_put_in known.now text.now) }
-    ensures noted { IfOk result AreNoted }
+    ensures noted { IfOk result (AreNoted known.now) }
 {
     needs(may_put(&known.section), Reason::Syntax)?;
     let entry = read_entry(alloc, text)?;
@@ -223,7 +226,7 @@ fn read_live_put(alloc: Global, known: &LiveKnown, text: &[u8]) -> Result<LiveTo
 fn read_live_erase(known: &LiveKnown, text: &[u8]) -> Result<LiveTold, LineFault>
     requires { is_config known.now.config ≡ true }
     ensures judged { Says result (live_erase_in known.now text.now) }
-    ensures noted { IfOk result AreNoted }
+    ensures noted { IfOk result (AreNoted known.now) }
 {
     needs(is_session(&known.section), Reason::Syntax)?;
     let key = read_last_key(text)?;
@@ -235,7 +238,7 @@ fn read_live_erase(known: &LiveKnown, text: &[u8]) -> Result<LiveTold, LineFault
 #[tactic(auto, unfolding(crate::specs::LiveLines::live_call_in))]
 fn read_live_call(alloc: Global, known: &LiveKnown, text: &[u8]) -> Result<LiveTold, LineFault>
     ensures judged { Says result (live_call_in known.now text.now) }
-    ensures noted { IfOk result AreNoted }
+    ensures noted { IfOk result (AreNoted known.now) }
 {
     needs(is_session(&known.section), Reason::Syntax)?;
     let (number, rest) = read_number_field(text)?;
@@ -256,7 +259,7 @@ fn read_live_fields(
 ) -> Result<LiveTold, LineFault>
     requires { is_config known.now.config ≡ true }
     ensures judged { Says result (live_fields_in known.now word text.now) }
-    ensures noted { IfOk result AreNoted }
+    ensures noted { IfOk result (AreNoted known.now) }
 {
     match word {
         LiveWord::Load => read_load(known, text),
@@ -279,7 +282,7 @@ pub(crate) fn read_told(
 ) -> Result<LiveTold, LineFault>
     requires { is_config known.now.config ≡ true }
     ensures judged { Says result (told_in known.now text.now) }
-    ensures noted { IfOk result AreNoted }
+    ensures noted { IfOk result (AreNoted known.now) }
 {
     let (word, rest) = read_live_word(text)?;
     read_live_fields(alloc, known, word, rest)

@@ -22,7 +22,7 @@ impl Model for LiveScript {
     ghost use Rattle.std.specs.Coded.{codes};
     ghost use Rattle.pipeline_expr.specs.contracts.expr.Expr as exprs;
     ghost use Rattle.grid_event.specs.Configs.{is_config};
-    ghost use Rattle.grid_script.specs.Scripts.{Lives};
+    ghost use Rattle.grid_script.specs.Scripts.{Lives, are_numbered};
 
     ghost Value = { Lives };
 
@@ -30,5 +30,5 @@ impl Model for LiveScript {
 
     ghost view = { λ script. record { config = script.config; load = script.load.list; changes = script.changes; sessions = script.sessions } };
 
-    ghost invariant = { λ script. is_config script.config ≡ true };
+    ghost invariant = { λ script. (is_config script.config ≡ true) × (are_numbered 1 script.sessions ≡ true) };
 }

@@ -5,7 +5,7 @@ ghost use Rattle.grid_base.specs.declared.limits.TheConstants.{LAST_CLOCK, LONGE
 ghost use Rattle.grid_event.specs.Configs.{is_config};
 ghost use Rattle.grid_script.specs.Judging.{Answers, Says};
 ghost use Rattle.grid_script.specs.Lines.{Line, lines_of};
-ghost use Rattle.grid_script.specs.LiveLines.{AreNoted, all_sessions, calls_with, members_with, section_with, with_members, with_told};
+ghost use Rattle.grid_script.specs.LiveLines.{AreNoted, IsNotedDeed, IsNotedMember, IsNumbered, all_sessions, calls_with, members_with, section_with, with_members, with_told};
 ghost use Rattle.grid_script.specs.Reading.{after_all, body_of, live_after, live_start, script_of, step_after, step_start};
 ghost use Rattle.grid_script.specs.StepLines.{IsNoted, noted, with_order};
 
@@ -174,7 +174,7 @@ fn read_step_script(
 /// Notes the change of the membership.
 #[tactic(auto, unfolding(crate::specs::LiveLines::with_members))]
 fn note_change(known: &mut LiveKnown, member: &Member)
-    requires { AreNoted (LiveTold.Changes member.now) }
+    requires { IsNotedMember member.now }
     ensures { known.new ≡ with_members known.old (members_with known.old.members member.now) }
 {
     match member {
@@ -185,7 +185,7 @@ fn note_change(known: &mut LiveKnown, member: &Member)
 
 /// Notes the call that a deed makes, if it makes one.
 fn note_call(calls: &mut CallSet, deed: &Deed)
-    requires { AreNoted (LiveTold.Does deed.now) }
+    requires { IsNotedDeed deed.now }
     ensures { calls.new ≡ calls_with calls.old deed.now }
 {
     if let Deed::Call(call, _) = deed {
@@ -260,7 +260,7 @@ fn with_section(known: LiveKnown, section: Section) -> Result<LiveKnown, NoMemor
 /// What is known behind a line that changes the membership.
 #[tactic(auto, unfolding(crate::specs::LiveLines::with_told, crate::specs::LiveLines::with_members))]
 fn with_change(known: LiveKnown, member: Member) -> Result<LiveKnown, NoMemory>
-    requires { AreNoted (LiveTold.Changes member) }
+    requires { IsNotedMember member }
     ensures { IfOk result (λ made. made ≡ with_told known (LiveTold.Changes member)) }
 {
     let mut known = known;
@@ -282,7 +282,7 @@ fn with_entry(known: LiveKnown, entry: Entry) -> Result<LiveKnown, NoMemory>
 /// What is known behind a line that says a deed of the session.
 #[tactic(auto, unfolding(crate::specs::LiveLines::with_told))]
 fn with_deed(known: LiveKnown, deed: Deed) -> Result<LiveKnown, NoMemory>
-    requires { AreNoted (LiveTold.Does deed) }
+    requires { IsNotedDeed deed }
     ensures { IfOk result (λ made. made ≡ with_told known (LiveTold.Does deed)) }
 {
     let LiveKnown {
@@ -310,7 +310,7 @@ fn with_deed(known: LiveKnown, deed: Deed) -> Result<LiveKnown, NoMemory>
 
 /// What is known behind a line that tells this.
 fn with_told(known: LiveKnown, told: LiveTold) -> Result<LiveKnown, NoMemory>
-    requires { AreNoted told }
+    requires { AreNoted known told }
     ensures { IfOk result (λ made. made ≡ with_told known told) }
 {
     match told {
@@ -330,8 +330,10 @@ fn live_after(
     ended: bool,
 ) -> Result<LiveKnown, LineFault>
     requires settings { is_config known.config ≡ true }
+    requires numbered { IsNumbered known }
     ensures judged { (number : ℕ) → Says result (live_after known number (record { bytes = line.now; ended = ended })) }
     ensures settings { IfOk result (λ next. is_config next.config ≡ true) }
+    ensures numbered { IfOk result IsNumbered }
 {
     is_whole(line, ended)?;
     if says_nothing(line) {
@@ -367,9 +369,11 @@ fn lives_after(
     text: &[u8],
 ) -> Result<LiveKnown, ScriptFault>
     requires settings { is_config known.config ≡ true }
+    requires numbered { IsNumbered known }
     requires lines { number + length text.now < 2 ^ 32 }
     ensures told { Answers result (after_all live_after known number (lines_of text.now)) }
     ensures settings { IfOk result (λ next. is_config next.config ≡ true) }
+    ensures numbered { IfOk result IsNumbered }
 {
     let mut known = known;
     let mut number = number;

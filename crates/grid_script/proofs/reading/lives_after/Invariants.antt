@@ -1,6 +1,7 @@
 use Rattle.std.proofs.Common.{◌≡◌, ◌+◌, ◌≤◌, true, length}
 use Rattle.grid_event.specs.Configs.{is_config}
 use Rattle.grid_script.specs.Lines.{lines_of}
+use Rattle.grid_script.specs.LiveLines.{IsNumbered}
 use Rattle.grid_script.specs.Reading.{after_all, live_after}
 use Rattle.grid_script.proofs.reading.lives_after.Given as goal
 
@@ -10,6 +11,7 @@ invariant-lines l = record {
   told : after_all live_after l.known l.number (lines_of l.rest) ≡ after_all live_after l.fn.known l.fn.number (lines_of l.text);
   room : l.number + length l.rest ≤ l.fn.number + length l.text;
   settings : is_config l.known.config ≡ true;
+  numbered : IsNumbered l.known;
 }
 
 -- the bytes left
