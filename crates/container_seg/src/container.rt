@@ -2,9 +2,10 @@
 
 ghost use Rattle.std.specs.Prelude.{◌≡◌, ◌≤◌, ◌==◌, true, not, IfOk, IsOk, OnOk, OnErr, None};
 ghost use Rattle.std.specs.FinMap as map;
+ghost use Rattle.std.specs.List.{list_all};
 ghost use Rattle.std.specs.Option.{option_copied};
 ghost use Rattle.container_seg.specs.Contents.{place, part_entries};
-ghost use Rattle.container_seg.specs.Lifespans.{is_fresh, outlasts};
+ghost use Rattle.container_seg.specs.Lifespans.{is_fresh, left, outlasts};
 ghost use Rattle.container_seg.specs.Scans.{next_chunk, without_deadlines};
 
 use crate::parts::{clear_in, copied, grow, left, plain, purge_in, put_in, remove_in};
@@ -97,7 +98,7 @@ impl Container {
     }
 
     /// Sets the stamped value of `key` in `segment`, whose deadline is none or above the clock, and
-    /// gives the one before, where there is one that hasn't expired. It fails only where memory
+    /// gives the one before, where there is one; that hasn't expired. It fails only where memory
     /// runs out, and never where the key is there; the container is then as before.
     pub fn put(
         &mut self,
@@ -108,6 +109,7 @@ impl Container {
     ) -> Result<Option<Stamped>, NoMemory>
         requires { outlasts self.old.clock stamped.until ≡ true }
         ensures before { IfOk result (λ before. before ≡ map.get self.old.entries (place segment key)) }
+        ensures lasting { IfOk result (λ before. left self.old.clock before ≡ before) }
         ensures ok { OnOk result (self.new ≡ record self.old { entries = map.insert self.old.entries (place segment key) stamped }) }
         ensures err { OnErr result (self.new ≡ self.old) }
         ensures absent { OnErr result (map.get self.old.entries (place segment key) ≡ None) }
@@ -179,7 +181,7 @@ impl Container {
         plain(alloc, self.scan_stamped(alloc, segment, after, most)?)
     }
 
-    /// The same entries as `scan`, with their deadlines.
+    /// The same entries as `scan`, with their deadlines; none of them has expired.
     pub fn scan_stamped(
         &self,
         alloc: Global,
@@ -188,7 +190,8 @@ impl Container {
         most: u16,
     ) -> Result<Chunk, NoMemory>
         requires { 1 ≤ most }
-        ensures { IfOk result (λ chunk. chunk ≡ next_chunk self.now.node (option_copied after.entry) most (part_entries self.now.entries segment)) }
+        ensures chunk { IfOk result (λ chunk. chunk ≡ next_chunk self.now.node (option_copied after.entry) most (part_entries self.now.entries segment)) }
+        ensures lasting { IfOk result (λ chunk. list_all (λ e. outlasts self.now.clock e.stamped.until) chunk.entries ≡ true) }
     {
         let at = usize::from(segment.number());
         if at >= self.segments.len() {

@@ -1,5 +1,14 @@
 pub mod CellLaws
+pub mod SlotLaws
+pub mod PassageLaws
+pub mod TransferTrees
+pub mod SoundLaws
+pub mod PartLaws
+pub mod WriteLaws
+pub mod LandLaws
 pub mod FaithfulLaws
 pub mod ChunkLaws
 pub mod LeavingLaws
 pub mod StepLaws
+pub mod FaithfulTransferLaws
+pub mod TestLaws

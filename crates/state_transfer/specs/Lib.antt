@@ -4,3 +4,8 @@ pub mod Changes
 pub mod Chunks
 pub mod Leaving
 pub mod Faithful
+pub mod Slots
+pub mod Passages
+pub mod Calls
+pub mod Landing
+pub mod FaithfulTransfers

@@ -1,0 +1,5 @@
+use Rattle.state_transfer.proofs.FaithfulTransferLaws as laws
+use Rattle.state_transfer.proofs.faithful.landings_stay_faithful.Goals as goal
+
+pub returns : goal.returns
+returns c = laws.landings_stay
