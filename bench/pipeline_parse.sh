@@ -2,14 +2,7 @@
 # Reads and prints pipelines of 1,024 bytes, one a line, at two counts and in three shapes: nested
 # as deep as the text allows, a list as long as it allows, and one long expression after another.
 # Prints the time and the peak memory of each run.
-set -e
-cd "$(dirname "$0")/../crates/pipeline_lines"
-folder=$(mktemp -d)
-trap 'rm -rf "$folder"' EXIT
-if ! rt run <stdin >"$folder/log" 2>&1; then
-    cat "$folder/log"
-    exit 1
-fi
+source "$(dirname "$0")/built.sh" pipeline_lines
 repeat() { printf "%.0s$1" $(seq "$2"); }
 deep="map $(repeat 'not(' 201)value$(repeat ')' 201) | count"
 wide="flatmap [value$(repeat ', value' 143)] | count"
