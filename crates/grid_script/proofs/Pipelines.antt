@@ -1,5 +1,5 @@
 -- The pipeline of a text, by what a parse tells of it.
-use Rattle.std.proofs.Common.{◌≡◌, ℕ, ◌+◌, ◌<◌, ◌≤◌, true, false, cond, nat_le, List, length, Result, Ok, Err, refl, ap, ◌∙◌, arith}
+use Rattle.std.proofs.Common.{◌≡◌, ℕ, ◌+◌, ◌<◌, ◌≤◌, true, false, cond, nat_le, List, length, Result, Ok, Err, refl, ap, ◌∙◌, arith, sym, Bool}
 use Rattle.std.proofs.lemmas.Bool.Decides.{nat_tests}
 use Rattle.grid_base.specs.declared.limits.TheConstants.{LONGEST_LINE}
 use Rattle.pipeline_expr.specs.declared.pipeline.Pipeline.{Pipeline}
@@ -9,6 +9,7 @@ use Rattle.pipeline_parse.proofs.Exactness.{found, only}
 use Rattle.grid_script.specs.declared.reason.Reason.TheVariants.{Syntax}
 use Rattle.grid_script.specs.Fields.{pipeline_of}
 use Rattle.grid_script.specs.Judging.{spelt}
+use Rattle.grid_script.specs.Laws.{PipelinesByText}
 
 within : (n : ℕ) → n ≤ LONGEST_LINE → nat_le n LONGEST_LINE ≡ true
 within n h = grind (arith, nat_tests)
@@ -38,3 +39,24 @@ pipeline_none s room none =
 pub pipeline_long : (s : List ℕ) → LONGEST_LINE < length s → spelt (pipeline_of s) ≡ Err Syntax
 unfolding pipeline_of
 pipeline_long s more = ap (λ t. spelt (cond t (pipeline_at (length s + 1) s) (Err (length s)))) (past (length s) more)
+
+short : (n : ℕ) → nat_le n LONGEST_LINE ≡ true → n ≤ LONGEST_LINE
+short n h = grind (arith, nat_tests)
+
+-- a text stands for a pipeline exactly where it is that pipeline's text
+pub by_text : PipelinesByText
+unfolding pipeline_of
+by_text s p = (λ e. forth e (nat_le (length s) LONGEST_LINE) refl, λ h. back h.0 h.1 h.2)
+  where
+    forth : pipeline_of s ≡ Ok p → (t : Bool) → nat_le (length s) LONGEST_LINE ≡ t → (length s ≤ LONGEST_LINE) × (text_of p ≡ s) × (fits p ≡ true)
+    forth e true f =
+        let parsed : pipeline_at (length s + 1) s ≡ Ok p = sym (ap (λ t. cond t (pipeline_at (length s + 1) s) (Err (length s))) f) ∙ e in
+        let h = found (length s + 1) s p parsed in
+        (short (length s) f, h.0, h.1)
+    forth e false f =
+        let none : Err (length s) ≡ Ok p = sym (ap (λ t. cond t (pipeline_at (length s + 1) s) (Err (length s))) f) ∙ e in
+        cc
+
+    back : length s ≤ LONGEST_LINE → text_of p ≡ s → fits p ≡ true → pipeline_of s ≡ Ok p
+    back room text fit =
+        ap (λ t. cond t (pipeline_at (length s + 1) s) (Err (length s))) (within (length s) room) ∙ only (length s + 1) s p (omega arith) fit text

@@ -12,3 +12,4 @@ pub mod Settings
 pub mod Heads
 pub mod Reading
 pub mod Generating
+pub mod Laws

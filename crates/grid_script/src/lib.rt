@@ -11,6 +11,7 @@ mod deed;
 mod generator;
 mod head_words;
 mod known;
+mod laws;
 mod line_fault;
 mod lines;
 mod live_known;
@@ -39,6 +40,7 @@ mod words;
 
 pub use deed::Deed;
 pub use generator::generate;
+pub use laws::pipelines_stand_by_their_texts;
 pub use live_script::LiveScript;
 pub use member::Member;
 pub use order::Order;

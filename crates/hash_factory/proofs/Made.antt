@@ -1,24 +1,21 @@
 -- That hashes are made as their formulas say.
-use Rattle.std.proofs.Common.{◌≡◌, ◌≢◌, ℕ, suc, zero, ◌+◌, ◌-◌, ◌*◌, ◌/◌, ◌%◌, ◌<◌, ◌≤◌, Bool, true, false, not, ◌&&◌, cond, List, [], ◌∷◌, ◌++◌, map, length, get_or, min, nat_eq, ◌==◌, arith, refl, sym, ap, ◌∙◌, inl, inr}
-use Rattle.std.proofs.lemmas.Bool.{ne_eqb, cases_order, and_from}
+use Rattle.std.proofs.Common.{◌≡◌, ◌≢◌, ℕ, suc, zero, ◌+◌, ◌-◌, ◌*◌, ◌/◌, ◌%◌, ◌<◌, ◌≤◌, Bool, true, false, not, ◌&&◌, cond, List, [], ◌∷◌, map, length, get_or, min, nat_eq, ◌==◌, arith, refl, sym, ap, ◌∙◌, inl, inr}
+use Rattle.std.proofs.lemmas.Bool.{ne_eqb, cases_lt, cases_order, and_from}
+use Rattle.std.proofs.lemmas.List.{get_or_past}
 use Rattle.std.proofs.lemmas.List.Folds.{list_any_none}
 use Rattle.std.proofs.lemmas.List.Elements.{All-from_get_or}
-use Rattle.std.proofs.lemmas.List.FromFn.{map-range_with_len_more, length-map-range_with_len, get_or-map-range_with_len}
+use Rattle.std.proofs.lemmas.List.FromFn.{length-map-range_with_len, get_or-map-range_with_len}
 use Rattle.std.proofs.lemmas.Map.Keys.{apart_from_distinct}
 use Rattle.std.proofs.Math.Nat.{mod-lt, div-add-mod, mul-le-mul_left}
 use Rattle.std.specs.List.{AllByRecursion, IsDistinct, filter, range_with_len, list_all}
 use Rattle.std.specs.Cmp.{nat_eq_equiv}
 use Rattle.std.specs.FinSet as sets
 use Rattle.grid_base.specs.Nodes.{Nodes}
-use Rattle.topology_phase.specs.Owners.{joined, owners_at, Hash, among, members, tabulated, is_ownerless}
+use Rattle.topology_phase.specs.Owners.{joined, owners_at, among, members, is_ownerless}
 use Rattle.topology_phase.specs.Following.{is_owned_by}
 use Rattle.topology_phase.proofs.OwnerLists.{joined_short}
-use Rattle.topology_phase.proofs.Mending.{length-tabulated, among_at}
+use Rattle.topology_phase.proofs.Mending.{length-tabulated, owners_at-tabulated, among_at}
 use Rattle.hash_factory.specs.Formulas.{created, created_owners}
-
--- one more segment
-pub tabulated_more : (f : ℕ → List ℕ) (n : ℕ) → tabulated (n + 1) f ≡ tabulated n f ++ f n ∷ []
-tabulated_more f n = map-range_with_len_more f 0 n n (omega arith)
 
 -- numbers from a on that pass a test differ from a number below a
 none_below : (p : ℕ → Bool) (a n b : ℕ) → b < a → AllByRecursion (λ m. nat_eq b m ≡ false) (filter p (range_with_len a n))
@@ -100,6 +97,14 @@ pub length-created : (live : List ℕ) (segments owners : ℕ) → length (creat
 unfolding created
 length-created live segments owners = length-tabulated segments (λ s. created_owners live s owners)
 
+-- in a created hash no segment has more owners than were asked for
+pub few_created : (live : List ℕ) (segments owners s : ℕ) → length (owners_at (created live segments owners) s) ≤ owners
+unfolding created
+few_created live segments owners s = elim (cases_lt s segments) [
+  | inl within ↦ omega (arith, ap length (owners_at-tabulated segments (λ k. created_owners live k owners) s within), length-map-range_with_len (λ j. get_or live ((s + j) % length live) 0) 0 (min owners (length live)))
+  | inr past ↦ omega (arith, ap length (get_or_past (created live segments owners) s [] (omega (arith, past, length-tabulated segments (λ k. created_owners live k owners)))))
+]
+
 -- in a created hash each segment has an owner, and each owner is a member
 pub owned_created : (live : List ℕ) (segments owners : ℕ) → 0 < length live → 0 < owners → is_owned_by live (created live segments owners) ≡ true
 unfolding created
@@ -108,10 +113,6 @@ owned_created live segments owners some one =
     and_from (not (is_ownerless (created_owners live s owners))) (list_all (λ n. among n live) (created_owners live s owners))
     (owner_of_some (λ j. get_or live ((s + j) % length live) 0) (min owners (length live)) (omega arith))
     (all_numbers (λ n. among n live) (λ j. get_or live ((s + j) % length live) 0) 0 (min owners (length live)) (λ j. among_at live ((s + j) % length live) (mod-lt (s + j) some))))
-
--- a hash of the segments so far, with the next one pushed
-pub pushed_more : (f : ℕ → List ℕ) (n : ℕ) (hash next : Hash) (row : List ℕ) → hash ≡ tabulated n f → next ≡ hash ++ row ∷ [] → row ≡ f n → next ≡ tabulated (n + 1) f
-pushed_more f n hash next row so_far pushed is = pushed ∙ (λ i. so_far i ++ is i ∷ []) ∙ sym (tabulated_more f n)
 
 -- two hashes of one segment with few owners have few in their union
 pub union_short : (x y : List ℕ) → length x ≤ 4 → length y ≤ 4 → (s : ℕ) → length (joined (owners_at (x ∷ []) s) (owners_at (y ∷ []) s)) ≤ 8

@@ -1,30 +1,19 @@
 -- Who lives, with which topology, after each change.
-use Rattle.std.proofs.Common.{◌≡◌, ℕ, ◌+◌, ◌-◌, ◌<◌, ◌==◌, Bool, true, false, cond, not, ◌&&◌, ◌||◌, List, [], ◌∷◌, length, Option, Some, None, is_some, unwrap_or, refl, sym, ap, ◌∙◌, arith, inl, inr}
+use Rattle.std.proofs.Common.{◌≡◌, ℕ, ◌+◌, ◌<◌, ◌==◌, Bool, true, false, cond, not, ◌&&◌, ◌||◌, List, [], ◌∷◌, length, Option, Some, None, is_some, unwrap_or, refl, sym, ap, ◌∙◌, arith, inl, inr}
 use Rattle.std.proofs.lemmas.Bool.{and_parts, or_cases, eqb-true, ne_eqb, ltb-true, true≢false}
-use Rattle.std.proofs.lemmas.List.{length-map}
 use Rattle.std.specs.Cmp.{nat_cmp_total, unsigned_tied, nat_eq_equiv}
 use Rattle.std.specs.FinMap as map_of
 use Rattle.std.specs.FinSet as set_of
-use Rattle.std.specs.List.{list_all, list_any}
-use Rattle.std.specs.Ordering.{nat_cmp, eq_by_cmp}
+use Rattle.std.specs.List.{list_all}
 use Rattle.topology_phase.specs.Owners.{among}
 use Rattle.topology_phase.specs.Topologies.{Topology}
 use Rattle.topology_coord.specs.Changes.{announces, departs, installs, joins, may_depart}
 use Rattle.topology_coord.specs.Coordination.{Coordination, all_installed, installed_id, live_nodes, lives, topology_of}
-
-any_as : {A : Type 0} (p q : A → Bool) → ((x : A) → p x ≡ q x) → (xs : List A) → list_any p xs ≡ list_any q xs
-any_as p q same [] = refl
-any_as p q same (x ∷ xs) = λ i. same x i || any_as p q same xs i
+use Rattle.topology_coord.proofs.Living.{among_keys, live_left, live_more}
 
 -- a node is among the live ones where it lives
 pub among-live : (c : Coordination) (n : ℕ) → among n (live_nodes c) ≡ lives c n
-among-live c n =
-    any_as (λ m. m == n) (eq_by_cmp nat_cmp n) (λ m. nat_eq_equiv.symm m n ∙ sym (unsigned_tied n m)) (live_nodes c)
-    ∙ sym (map_of.contains_key-keys c.installed n)
-
--- there are as many live nodes as have installed a topology
-pub length-live : (c : Coordination) → length (live_nodes c) ≡ map_of.len c.installed
-length-live c = length-map (map_of.entries c.installed) (λ e. e.0) ∙ sym (map_of.len-entries c.installed)
+among-live c n = among_keys c.installed n
 
 there_or : {A : Type 0} (b : Bool) (v : A) (o : Option A) → is_some (cond b (Some v) o) ≡ (b || is_some o)
 there_or true v o = refl
@@ -48,80 +37,57 @@ put_at c q id n = map_of.get-insert nat_cmp_total c.installed q id n ∙ ap (λ 
 gone_at : (c : Coordination) (q n : ℕ) → map_of.get (map_of.remove c.installed q) n ≡ cond (n == q) None (map_of.get c.installed n)
 gone_at c q n = map_of.get-remove nat_cmp_total c.installed q n ∙ ap (λ b. cond b None (map_of.get c.installed n)) (unsigned_tied n q)
 
--- ---- a node joins
-
--- it lives then, and the others as before
+-- a node that joins lives then, and the others as before
 pub lives-joins : (c : Coordination) (q n : ℕ) → lives (joins c q) n ≡ ((n == q) || lives c n)
 unfolding joins
 lives-joins c q n = ap is_some (put_at c q c.newest.id n) ∙ there_or (n == q) c.newest.id (map_of.get c.installed n)
 
--- it has the newest topology
+-- a node that joins has the newest topology, and the others what they had
 pub installed-joins : (c : Coordination) (q n : ℕ) → installed_id (joins c q) n ≡ cond (n == q) c.newest.id (installed_id c n)
 unfolding joins
 installed-joins c q n = ap (λ o. unwrap_or o 0) (put_at c q c.newest.id n) ∙ number_or (n == q) c.newest.id (map_of.get c.installed n)
 
--- it was a member
+-- a node that joins was a member from then on
 pub member-joins : (c : Coordination) (q n : ℕ) → set_of.contains (joins c q).ever n ≡ ((n == q) || set_of.contains c.ever n)
 unfolding joins
 member-joins c q n = set_of.contains-insert nat_cmp_total c.ever q n ∙ ap (λ b. b || set_of.contains c.ever n) (unsigned_tied n q)
 
--- ---- a node departs
-
--- it lives no longer, and the others as before
+-- a node that departs lives no longer, and the others as before
 pub lives-departs : (c : Coordination) (q n : ℕ) → lives (departs c q) n ≡ (not (n == q) && lives c n)
 unfolding departs
 lives-departs c q n = ap is_some (gone_at c q n) ∙ there_but (n == q) (map_of.get c.installed n)
 
--- what the others have installed stays
+-- where a node departs, what the others have installed stays
 pub installed-departs : (c : Coordination) (q n : ℕ) → installed_id (departs c q) n ≡ cond (n == q) 0 (installed_id c n)
 unfolding departs
 installed-departs c q n = ap (λ o. unwrap_or o 0) (gone_at c q n) ∙ number_but (n == q) (map_of.get c.installed n)
 
--- ---- a node installs
-
--- it lives, and the others as before
+-- a node that installs lives, and the others as before
 pub lives-installs : (c : Coordination) (q n : ℕ) → lives (installs c q) n ≡ ((n == q) || lives c n)
 unfolding installs
 lives-installs c q n = ap is_some (put_at c q c.newest.id n) ∙ there_or (n == q) c.newest.id (map_of.get c.installed n)
 
--- it has the newest topology
+-- a node that installs has the newest topology, and the others what they had
 pub installed-installs : (c : Coordination) (q n : ℕ) → installed_id (installs c q) n ≡ cond (n == q) c.newest.id (installed_id c n)
 unfolding installs
 installed-installs c q n = ap (λ o. unwrap_or o 0) (put_at c q c.newest.id n) ∙ number_or (n == q) c.newest.id (map_of.get c.installed n)
 
--- ---- how many live
-
-length_more : (b : Bool) (n : ℕ) → 0 < n → 0 < cond b n (n + 1)
-length_more true n h = h
-length_more false n h = omega arith
-
-length_less : (b : Bool) (n : ℕ) → 1 < n → 0 < cond b (n - 1) n
-length_less true n h = omega arith
-length_less false n h = omega arith
-
--- where some live, some live after a join
+-- some live after a join
 pub some-joins : (c : Coordination) (q : ℕ) → 0 < length (live_nodes c) → 0 < length (live_nodes (joins c q))
 unfolding joins
-some-joins c q h =
-    let few : 0 < map_of.len c.installed = omega (arith, length-live c) in
-    omega (arith, length-live (joins c q), map_of.len-insert nat_cmp_total c.installed q c.newest.id, length_more (map_of.contains_key c.installed q) (map_of.len c.installed) few)
+some-joins c q h = live_more c.installed q c.newest.id
 
--- after an installation
+-- some live after an installation
 pub some-installs : (c : Coordination) (q : ℕ) → 0 < length (live_nodes c) → 0 < length (live_nodes (installs c q))
 unfolding installs
-some-installs c q h =
-    let few : 0 < map_of.len c.installed = omega (arith, length-live c) in
-    omega (arith, length-live (installs c q), map_of.len-insert nat_cmp_total c.installed q c.newest.id, length_more (map_of.contains_key c.installed q) (map_of.len c.installed) few)
+some-installs c q h = live_more c.installed q c.newest.id
 
--- and after the departure of one of several
+-- some live after the departure of one of several
 pub some-departs : (c : Coordination) (q : ℕ) → may_depart c q ≡ true → 0 < length (live_nodes (departs c q))
 unfolding departs
 some-departs c q h =
-    let more : 1 < length (live_nodes c) = ltb-true 1 (length (live_nodes c)) (and_parts (lives c q) _ h).1 in
-    let few : 1 < map_of.len c.installed = omega (arith, length-live c) in
-    omega (arith, length-live (departs c q), map_of.len-remove nat_cmp_total c.installed q, length_less (map_of.contains_key c.installed q) (map_of.len c.installed) few)
-
--- ---- the topology that a node has installed
+    let may = and_parts (lives c q) _ h in
+    live_left c.installed q may.0 (ltb-true 1 (length (live_nodes c)) may.1)
 
 by_number : (b : Bool) (id : ℕ) (i : ℕ) (newest before : Topology) → id ≡ newest.id → cond (cond b id i == newest.id) newest before ≡ cond b newest (cond (i == newest.id) newest before)
 by_number true id i newest before e = ap (λ b. cond b newest before) (nat_eq_equiv.congr id newest.id newest.id (ap (λ k. k == newest.id) e ∙ nat_eq_equiv.refl newest.id) ∙ nat_eq_equiv.refl newest.id)

@@ -1,3 +1,5 @@
 pub mod Coordination
 pub mod Following
 pub mod Changes
+pub mod Slots
+pub mod Holding

@@ -4,3 +4,4 @@ pub mod SameTopologies
 pub mod NeighbourLaws
 pub mod Tables
 pub mod TopologyParts
+pub mod NextTopologies

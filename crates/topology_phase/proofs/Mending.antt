@@ -1,8 +1,8 @@
 -- Who owns a segment after a repair.
-use Rattle.std.proofs.Common.{◌≡◌, ℕ, suc, zero, ◌%◌, ◌<◌, Bool, true, false, cond, ◌||◌, ◌⊎◌, List, [], ◌∷◌, length, get_or, nat_eq, arith, refl, sym, ap, ◌∙◌, inl, inr}
+use Rattle.std.proofs.Common.{◌≡◌, ℕ, suc, zero, ◌+◌, ◌%◌, ◌<◌, Bool, true, false, cond, ◌||◌, ◌⊎◌, List, [], ◌∷◌, ◌++◌, length, get_or, nat_eq, arith, refl, sym, ap, ◌∙◌, inl, inr}
 use Rattle.std.proofs.lemmas.Bool.{eqb-true, eq-eqb, and_parts, and_from, or_cases, or_left, or_right, both_ways, cases_lt}
 use Rattle.std.proofs.lemmas.List.{get_or_past}
-use Rattle.std.proofs.lemmas.List.FromFn.{get_or-map-range_with_len, length-map-range_with_len}
+use Rattle.std.proofs.lemmas.List.FromFn.{get_or-map-range_with_len, length-map-range_with_len, map-range_with_len_more}
 use Rattle.std.proofs.Math.Nat.{mod-lt}
 use Rattle.std.specs.List.{list_any, filter}
 use Rattle.topology_phase.specs.Owners.{Hash, among, owners_at, tabulated}
@@ -111,6 +111,14 @@ module _ (live : List ℕ) where
 -- a tabulated hash has for each segment what the function gives it
 pub owners_at-tabulated : (segments : ℕ) (f : ℕ → List ℕ) (s : ℕ) → s < segments → owners_at (tabulated segments f) s ≡ f s
 owners_at-tabulated segments f s h = get_or-map-range_with_len f 0 segments s s [] h (omega arith)
+
+-- one more segment
+pub tabulated_more : (f : ℕ → List ℕ) (n : ℕ) → tabulated (n + 1) f ≡ tabulated n f ++ f n ∷ []
+tabulated_more f n = map-range_with_len_more f 0 n n (omega arith)
+
+-- a hash of the segments so far, with the next one pushed
+pub pushed_more : (f : ℕ → List ℕ) (n : ℕ) (hash next : Hash) (row : List ℕ) → hash ≡ tabulated n f → next ≡ hash ++ row ∷ [] → row ≡ f n → next ≡ tabulated (n + 1) f
+pushed_more f n hash next row so_far pushed is = pushed ∙ (λ i. so_far i ++ is i ∷ []) ∙ sym (tabulated_more f n)
 
 pub length-tabulated : (segments : ℕ) (f : ℕ → List ℕ) → length (tabulated segments f) ≡ segments
 length-tabulated segments f = length-map-range_with_len f 0 segments

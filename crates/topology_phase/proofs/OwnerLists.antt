@@ -84,7 +84,7 @@ unfolding joined
 joined_short xs ys = omega (arith, length-append xs (filter (λ n. not (among n xs)) ys), filter_short (λ n. not (among n xs)) ys)
 
 -- one more number behind those in a row
-range_push : (a n : ℕ) → range_with_len a (suc n) ≡ range_with_len a n ++ (a + n) ∷ []
+pub range_push : (a n : ℕ) → range_with_len a (suc n) ≡ range_with_len a n ++ (a + n) ∷ []
 range_push a zero = ap (λ k. k ∷ []) (omega arith)
 range_push a (suc n) = ap (λ ks. a ∷ ks) (range_push (a + 1) n ∙ ap (λ k. range_with_len (a + 1) n ++ k ∷ []) (omega arith))
 

@@ -15,7 +15,8 @@ few_at hash few s = elim (cases_lt s (length hash)) [
   | inr past ↦ omega (arith, ap length (get_or_past hash s [] past))
 ]
 
-none_at : (s : ℕ) → length (owners_at [] s) ≤ 4
+-- a segment of no hash has no owners
+pub none_at : (s : ℕ) → length (owners_at [] s) ≤ 4
 none_at s = let none : Hash = [] in few_at none refl s
 
 -- parts that make a topology keep what each topology keeps

@@ -38,6 +38,10 @@ cancelled t = record { id = t.id + 1; phase = NoRebalance; current = t.current; 
 abbrev pub in_phase : Topology → Phase → Topology
 in_phase t phase = record { id = t.id + 1; phase = phase; current = t.current; pending = t.pending }
 
+-- a rebalance begins that leads to this hash: the current one stays
+abbrev pub begun : Topology → Hash → Topology
+begun t aim = record { id = t.id + 1; phase = ReadOld; current = t.current; pending = aim }
+
 -- the end of a rebalance: the pending hash is the current one
 abbrev pub completed : Topology → Topology
 completed t = record { id = t.id + 1; phase = NoRebalance; current = t.pending; pending = [] }

@@ -34,7 +34,7 @@ pub fn neighbours(a: &Topology, b: &Topology, live: &NodeSet) -> bool
 }
 
 /// Whether a hash of `t` names a node that doesn't live.
-fn names_departed(t: &Topology, live: &Members) -> bool
+pub(crate) fn names_departed(t: &Topology, live: &Members) -> bool
     ensures { result ≡ (names_departed live.now t.now.current || names_departed live.now t.now.pending) }
 {
     name_departed(t.current_rows(), live) || name_departed(t.pending_rows(), live)
@@ -84,7 +84,7 @@ fn is_mended(rows: &[Owners], mine: &[Owners], other: &[Owners], live: &Members)
 }
 
 /// The owners of a segment; a segment that isn't there has none.
-fn owners_of(rows: &[Owners], segment: usize) -> Owners
+pub(crate) fn owners_of(rows: &[Owners], segment: usize) -> Owners
     ensures { result ≡ owners_at rows.now segment }
 {
     match rows.get(segment) {
@@ -95,7 +95,7 @@ fn owners_of(rows: &[Owners], segment: usize) -> Owners
 
 /// The owners of a segment without the departed.
 #[tactic(auto, unfolding(crate::specs::Following::mended))]
-fn mended(live: &Members, segment: usize, mine: &Owners, other: &Owners) -> Owners
+pub(crate) fn mended(live: &Members, segment: usize, mine: &Owners, other: &Owners) -> Owners
     requires { 0 < length live.now }
     ensures { result ≡ mended live.now segment mine.now other.now }
 {

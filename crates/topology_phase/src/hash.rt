@@ -72,9 +72,20 @@ impl Hash {
 
     /// The owners of the segments.
     pub(crate) fn rows(&self) -> &[Owners]
-        ensures { result.now ≡ self.now }
+        ensures rows { result.now ≡ self.now }
+        ensures few { length self.now ≤ 256 }
     {
         self.owners.as_slice()
+    }
+
+    /// The hash with these owners of the segments, at most 256. The only failure is that memory runs
+    /// out.
+    pub(crate) fn of_rows(alloc: Global, rows: &[Owners]) -> Result<Hash, NoMemory>
+        requires { length rows.now ≤ 256 }
+        ensures { IfOk result (λ hash. hash ≡ rows.now) }
+    {
+        let owners = Vec::from_slice(alloc, rows)?;
+        Ok(Hash { owners })
     }
 
     /// An equal hash. The only failure is that memory runs out.

@@ -5,6 +5,7 @@
 mod following;
 mod hash;
 mod members;
+mod next;
 mod owners;
 mod phase;
 mod safety;

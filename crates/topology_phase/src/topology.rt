@@ -4,7 +4,7 @@ ghost use Rattle.std.specs.Prelude.{◌≡◌, ◌<◌, ◌≤◌, ◌↔◌, �
 ghost use Rattle.std.specs.Option.{unwrap_or};
 ghost use Rattle.topology_phase.specs.Owners.{joined, owners_at};
 ghost use Rattle.topology_phase.specs.Phases.{same_phase};
-ghost use Rattle.topology_phase.specs.Topologies.{IsTopology, read_owners, write_owners, holders, same_topology, has_few, makes_topology};
+ghost use Rattle.topology_phase.specs.Topologies.{IsTopology, read_owners, write_owners, holders, same_hash, same_topology, has_few, makes_topology};
 
 use crate::hash::Hash;
 use crate::owners::Owners;
@@ -116,6 +116,13 @@ impl Topology {
         }
     }
 
+    /// Whether `aim` is the pending hash: that without segments where no rebalance goes on.
+    pub fn leads_to(&self, aim: &Hash) -> bool
+        ensures { result ≡ same_hash self.now.pending aim.now }
+    {
+        self.pending_rows() == aim.rows()
+    }
+
     /// Whether the two topologies are the same.
     #[tactic(auto, unfolding(crate::specs::Topologies::same_topology))]
     pub fn is_same(&self, other: &Topology) -> bool
@@ -171,14 +178,18 @@ impl Topology {
 
     /// The owners of the segments by the current hash.
     pub(crate) fn current_rows(&self) -> &[Owners]
-        ensures { result.now ≡ self.now.current }
+        ensures rows { result.now ≡ self.now.current }
+        ensures few { length self.now.current ≤ 256 }
+        ensures kept { IsTopology self.now }
     {
         self.current.rows()
     }
 
     /// The owners of the segments by the pending hash: of no segment where there is none.
     pub(crate) fn pending_rows(&self) -> &[Owners]
-        ensures { result.now ≡ self.now.pending }
+        ensures rows { result.now ≡ self.now.pending }
+        ensures few { length self.now.pending ≤ 256 }
+        ensures kept { IsTopology self.now }
     {
         if let Some(pending) = &self.pending {
             return pending.rows();

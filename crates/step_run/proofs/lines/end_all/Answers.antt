@@ -1,5 +1,4 @@
 -- The calls are finished, and then the topology is settled.
-use Rattle.std.proofs.Common.{◌∙◌, ap}
 use Rattle.grid_base.specs.declared.limits.TheConstants.{LAST_CALL}
 use Rattle.step_run.specs.Outcomes.{running}
 use Rattle.step_run.specs.StepRuns.{all_finished, settled}

@@ -1,7 +1,7 @@
 -- Each call is finished, and then the others.
 use Rattle.std.proofs.Common.{◌≡◌, ℕ, ◌<◌, ◌+◌, ◌-◌, ap, sym, subst, ◌∙◌, arith}
 use Rattle.grid_base.specs.declared.limits.TheConstants.{LAST_CALL}
-use Rattle.grid_event.specs.declared.command.Command.TheVariants.{Advance, Drive}
+use Rattle.grid_event.specs.declared.command.Command.TheVariants.{Drive}
 use Rattle.step_run.specs.Outcomes.{LeavesAt, running}
 use Rattle.step_run.specs.StepRuns.{ENOUGH, Progress, all_finished, repeated}
 use Rattle.step_run.proofs.Fronts.{all_finished-grows, all_finished-stays, leaves_on}
