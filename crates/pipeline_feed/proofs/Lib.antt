@@ -1,0 +1,4 @@
+mod ElementOrder
+mod SetLaws
+mod Continuing
+mod Outcomes
