@@ -10,8 +10,6 @@ use Rattle.grid_event.specs.Configs.{is_config}
 use Rattle.grid_event.specs.declared.config.Config.{Config}
 use Rattle.grid_event.specs.declared.event.Event.{Event}
 use Rattle.grid_event.specs.declared.event.Event.TheVariants.{Write, Erase, Tick, Join, Depart, Announce, Install, Copy, Land}
-use Rattle.grid_event.specs.declared.store_events.CopyEvent.{CopyEvent}
-use Rattle.state_transfer.specs.Cells.{Destination}
 use Rattle.state_transfer.specs.Changes.{changes, marks, ticks}
 use Rattle.state_transfer.specs.Chunks.{begun, lands, sends, with_chunk}
 use Rattle.state_transfer.specs.Copying.{Copying, Transfer, Transfers, transfer_to}
@@ -32,12 +30,12 @@ use Rattle.topology_phase.proofs.Mending.{any_of}
 use Rattle.topology_phase.proofs.SameTopologies.{same_phase_is}
 use Rattle.cluster_model.specs.Answers.{answered}
 use Rattle.cluster_model.specs.Calls.{invoked, rounded}
-use Rattle.cluster_model.specs.Kept.{IsKept, KeepsTopologies, KeepsTransfers}
+use Rattle.cluster_model.specs.Kept.{IsKept, KeepsTransfers}
 use Rattle.cluster_model.specs.State.{State, segment_of, start}
 use Rattle.cluster_model.specs.Step.{allowed, changed, runs, state}
 use Rattle.cluster_model.specs.Told.{Contents, contents_of}
 use Rattle.cluster_model.specs.Topologies.{all_copied, announced, can_announce, can_install, can_join, departed, installed, joined}
-use Rattle.cluster_model.specs.Transfers.{can_copy, copied, landed}
+use Rattle.cluster_model.specs.Transfers.{copied, landed}
 use Rattle.cluster_model.specs.Units.{begun_unit, ended_unit, fetched, scanned, taken_by}
 use Rattle.cluster_model.specs.Writes.{changed_key, erased, ticked, writers, written}
 use Rattle.cluster_laws.proofs.Facts.{changed_some, turned}
