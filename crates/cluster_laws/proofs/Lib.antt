@@ -17,5 +17,6 @@ pub mod Requests
 pub mod Histories
 pub mod Starts
 pub mod Runs
+pub mod ProviderSteps
 pub mod Batches
 pub mod CompletionRuns

@@ -44,3 +44,8 @@ same_chunk_is a b h =
     let entries = (pointwise_decides same_stamped_decides a.entries b.entries).0 parts.0 in
     let lasts = (booleans_Decides a.last b.last).0 parts.1 in
     λ i. record { entries = entries i; last = lasts i }
+
+-- and a chunk passes the test with itself
+pub same_chunk_itself : (a : Portion StampedEntry) → same_chunk a a ≡ true
+same_chunk_itself a =
+    and_from (pointwise same_stamped a.entries a.entries) (beq a.last a.last) ((pointwise_decides same_stamped_decides a.entries a.entries).1 refl) ((booleans_Decides a.last a.last).1 refl)

@@ -8,7 +8,7 @@ ghost use Rattle.container_seg.specs.Lifespans.{left, outlasts};
 ghost use Rattle.topology_phase.specs.Owners.{pruned};
 ghost use Rattle.state_transfer.specs.Calls.{ProvidesNone, are_lasting, goes_on, is_ended, is_lasting, is_new_to, marks_at, takes_back, written};
 ghost use Rattle.state_transfer.specs.Changes.{changes, ticks};
-ghost use Rattle.state_transfer.specs.Chunks.{chunk_of, flies, lands, may_send, sends};
+ghost use Rattle.state_transfer.specs.Chunks.{chunk_of, flies, lands, may_send, provider_of, sends};
 ghost use Rattle.state_transfer.specs.Copying.{Transfer, copy_at, each_changed, has_ended, nothing_held, part_of, transfer_to};
 ghost use Rattle.state_transfer.specs.Leaving.{cancels, closes, drops, forgets, restarts};
 
@@ -61,6 +61,13 @@ impl Copies {
             holders: Holders::new(alloc),
             passages: Passages::new(alloc),
         })
+    }
+
+    /// The clock, in ticks.
+    pub fn clock(&self) -> u32
+        ensures { result ≡ self.now.copying.clock }
+    {
+        self.holders.clock()
     }
 
     /// Adds `node`, which isn't there and provides no transfer. It holds nothing, and its container
@@ -183,6 +190,28 @@ impl Copies {
         match self.passages.get(Destination { receiver, segment }) {
             Some(passage) => passage.flies(),
             None => false,
+        }
+    }
+
+    /// Whether a chunk of the transfer of `segment` to `receiver` may be sent: where the transfer
+    /// isn't there yet, or hasn't ended and no chunk of it flies.
+    pub fn may_send(&self, receiver: NodeId, segment: SegmentId) -> bool
+        ensures { result ≡ may_send (transfer_to self.now.copying.transfers receiver segment) }
+    {
+        match self.passages.get(Destination { receiver, segment }) {
+            Some(passage) => passage.may_send(),
+            None => true,
+        }
+    }
+
+    /// The node that provides the transfer of `segment` to `receiver`. None comes exactly where the
+    /// transfer isn't there.
+    pub fn provider(&self, receiver: NodeId, segment: SegmentId) -> Option<NodeId>
+        ensures { result ≡ provider_of (transfer_to self.now.copying.transfers receiver segment) None }
+    {
+        match self.passages.get(Destination { receiver, segment }) {
+            Some(passage) => Some(passage.provider()),
+            None => None,
         }
     }
 

@@ -55,6 +55,13 @@ impl Passage {
         passage
     }
 
+    /// The node that provides the transfer.
+    pub(crate) fn provider(&self) -> NodeId
+        ensures { result ≡ self.now.provider }
+    {
+        self.provider
+    }
+
     /// The last key that was sent, where there is one.
     pub(crate) fn sent(&self) -> Option<&Key>
         ensures { option_copied result ≡ self.now.sent }

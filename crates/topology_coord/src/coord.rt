@@ -131,10 +131,18 @@ impl Coord {
         if !self.is_live(n) {
             return None;
         }
+        Some(self.topology_of(n))
+    }
+
+    /// The newest topology where node `n` has installed it, and else the one before it: of a live
+    /// node the topology that it has installed.
+    pub fn topology_of(&self, n: NodeId) -> &Topology
+        ensures { result.now ≡ topology_of self.now n }
+    {
         if self.installed.id(n) == self.newest.id().number() {
-            return Some(&self.newest);
+            return &self.newest;
         }
-        Some(&self.before)
+        &self.before
     }
 
     /// The number of the topology that node `n` has installed, and 0 where the node isn't live.

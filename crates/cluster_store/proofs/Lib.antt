@@ -1,0 +1,9 @@
+pub mod PastOwners
+pub mod Searches
+pub mod LeftCopies
+pub mod Reached
+pub mod Beginnings
+pub mod SendingLaws
+pub mod Rows
+pub mod Departures
+pub mod EventLaws

@@ -1,0 +1,63 @@
+-- Runs that lead to a state, and what they keep.
+use Rattle.std.proofs.Common.{◌≡◌, ℕ, Bool, true, false, ◌&&◌, List, [], ◌∷◌, ◌++◌, reverse, refl, sym, ap, subst, ◌∙◌}
+use Rattle.std.specs.FinSet as set_of
+use Rattle.grid_event.specs.Configs.{is_config}
+use Rattle.grid_event.specs.declared.config.Config.{Config}
+use Rattle.grid_event.specs.declared.event.Event.{Event}
+use Rattle.topology_coord.specs.Coordination.{lives}
+use Rattle.cluster_model.specs.Kept.{IsKept, KeepsParts}
+use Rattle.cluster_model.specs.State.{State, start}
+use Rattle.cluster_model.specs.Step.{allowed, changed, runs, state}
+use Rattle.cluster_model.specs.Told.{Contents, contents_of}
+use Rattle.cluster_laws.proofs.ProviderSteps.{KeepsProviders, providers_kept}
+use Rattle.cluster_laws.proofs.Runs.{always_kept}
+use Rattle.cluster_store.specs.Insides.{IsReached, IsStore, state_of}
+use Rattle.cluster_store.specs.declared.store.Store.TheInside.{Inside}
+
+-- of two tests the second may be told from the first
+joined : (a b c : Bool) → (a && b) ≡ true → (b ≡ true → c ≡ true) → (a && c) ≡ true
+joined true b c h next = next h
+joined false b c h next = h
+
+-- an event that may happen behind others makes a longer run
+runs-push : (st : State) (es : List Event) (e : Event) → runs st es ≡ true → allowed (state st es) e ≡ true → runs st (es ++ e ∷ []) ≡ true
+runs-push st [] e r a = rw a refl
+runs-push st (first ∷ es) e r a = joined (allowed st first) (runs (changed st first) es) (runs (changed st first) (es ++ e ∷ [])) r (λ rest. runs-push (changed st first) es e rest a)
+
+state-push : (st : State) (es : List Event) (e : Event) → state st (es ++ e ∷ []) ≡ changed (state st es) e
+state-push st [] e = refl
+state-push st (first ∷ es) e = state-push (changed st first) es e
+
+-- the start is reached
+pub start_reached : (config : Config) → IsReached config (start config)
+start_reached config = record { events = []; is_run = refl; reaches = refl }
+
+-- an event that may happen leads on
+pub reached_next : (config : Config) (st : State) (event : Event) → IsReached config st → allowed st event ≡ true → IsReached config (changed st event)
+reached_next config st event h may = record {
+  events = h.events ++ event ∷ [];
+  is_run = runs-push (start config) h.events event h.is_run (ap (λ (s : State). allowed s event) h.reaches ∙ may);
+  reaches = state-push (start config) h.events event ∙ ap (λ (s : State). changed s event) h.reaches;
+}
+
+-- what a store becomes by an event that may happen is a store
+pub store_next : (fields later : Inside) (event : Event) → IsStore fields → allowed (state_of fields) event ≡ true → later.config ≡ fields.config
+    → ((node : ℕ) → set_of.contains later.copies.nodes node ≡ lives later.coord node) → changed (state_of fields) event ≡ state_of later → IsStore later
+store_next fields later event h may config nodes is = record {
+  limits = ap is_config config ∙ h.limits;
+  nodes = nodes;
+  reached =
+      subst (λ s. IsReached later.config s) is
+      (subst (λ settings. IsReached settings (changed (state_of fields) event)) (sym config) (reached_next fields.config (state_of fields) event h.reached may));
+}
+
+-- the parts that each event keeps stand in a store
+pub store_parts : (fields : Inside) → IsStore fields → (m : Contents) × KeepsParts fields.config.segments fields.coord fields.copies.copying m
+store_parts fields h =
+    let past : List Event = reverse h.reached.events in
+    (contents_of fields.config past, (subst (λ s. IsKept fields.config past s) h.reached.reaches (always_kept fields.config h.reached.events h.limits h.reached.is_run)).parts)
+
+-- and each transfer is provided by a member that owns the segment as long as it lives
+pub store_providers : (fields : Inside) → IsStore fields → KeepsProviders fields.coord fields.copies.copying.transfers
+store_providers fields h =
+    subst (λ (s : State). KeepsProviders s.coord s.copying.transfers) h.reached.reaches (providers_kept fields.config h.reached.events h.limits h.reached.is_run)
