@@ -1,5 +1,10 @@
 //! Scripts that are read, and scripts that are refused: each reason at its line.
 
+mod cuts;
+mod limits;
+mod live_reasons;
+mod reasons;
+
 use crate::{Order, Reason, Script, ScriptFault, ScriptKind, StepLine, generate, read_script};
 use grid_base::{Bytes, Datum, NoMemory};
 use grid_event::Command;
@@ -15,10 +20,15 @@ const LIVE_HEAD: &[u8] =
     b"script live\nnodes 2\nsegments 4\nowners 1\npartition grouped\nvalues int\nchunk 2\n";
 
 /// The line and the reason of a refusal; none where the bytes stand for a script.
-fn refusal(alloc: Global, text: &[u8], kind: ScriptKind) -> Option<(u32, Reason)> {
+fn refusal(
+    alloc: Global,
+    text: &[u8],
+    kind: ScriptKind,
+) -> Result<Option<(u32, Reason)>, NoMemory> {
     match read_script(alloc, text, kind) {
-        Err(ScriptFault::Refused { line, reason }) => Some((line, reason)),
-        _ => None,
+        Ok(_) => Ok(None),
+        Err(ScriptFault::Refused { line, reason }) => Ok(Some((line, reason))),
+        Err(ScriptFault::NoMemory) => Err(NoMemory),
     }
 }
 
@@ -33,13 +43,13 @@ fn with_head(alloc: Global, head: &[u8], lines: &[u8]) -> Result<Bytes, NoMemory
 /// The refusal of lines behind the head of a stepped run.
 fn step_refusal(alloc: Global, lines: &[u8]) -> Result<Option<(u32, Reason)>, NoMemory> {
     let text = with_head(alloc, STEP_HEAD, lines)?;
-    Ok(refusal(alloc, text.as_slice(), ScriptKind::Step))
+    refusal(alloc, text.as_slice(), ScriptKind::Step)
 }
 
 /// The refusal of lines behind the head of a live run.
 fn live_refusal(alloc: Global, lines: &[u8]) -> Result<Option<(u32, Reason)>, NoMemory> {
     let text = with_head(alloc, LIVE_HEAD, lines)?;
-    Ok(refusal(alloc, text.as_slice(), ScriptKind::Live))
+    refusal(alloc, text.as_slice(), ScriptKind::Live)
 }
 
 #[test]
@@ -67,7 +77,7 @@ fn settings_are_in_their_ranges(rt: HostRuntime) -> Result<(), Fail> {
         ),
     ] {
         assert_eq!(rt;
-            refusal(alloc, text, ScriptKind::Step),
+            refusal(alloc, text, ScriptKind::Step)?,
             Some((line, reason))
         );
     }
@@ -105,36 +115,8 @@ fn the_last_settings_are_in_their_ranges(rt: HostRuntime) -> Result<(), Fail> {
         ),
     ] {
         assert_eq!(rt;
-            refusal(alloc, text, ScriptKind::Step),
+            refusal(alloc, text, ScriptKind::Step)?,
             Some((line, reason))
-        );
-    }
-    Ok(())
-}
-
-#[test]
-fn numbers_of_commands_are_in_their_ranges(rt: HostRuntime) -> Result<(), Fail> {
-    let alloc = rt.alloc();
-    for (lines, line) in [
-        (b"put 16 1#a 1\n".as_slice(), 8),
-        (b"copy 0 4\n", 8),
-        (b"call 0 0 exact 1 1 count\n", 8),
-        (b"call 4097 0 exact 1 1 count\n", 8),
-        (b"call 1 0 exact 65 1 count\n", 8),
-        (b"call 1 0 exact 1 0 count\n", 8),
-        (b"call 1 0 exact 1 1001 count\n", 8),
-        (b"round 4097\n", 8),
-        (b"put 0 1#a 1 for 0\n", 8),
-        (b"tick 0\n", 8),
-        (b"tick 999999999\ntick 1\ntick 1\n", 10),
-        (
-            b"call 1 0 exact 1 1 distinct | distinct | distinct | distinct | distinct | distinct | distinct | distinct | distinct | count\n",
-            8,
-        ),
-    ] {
-        assert_eq!(rt;
-            step_refusal(alloc, lines)?,
-            Some((line, Reason::OverLimit))
         );
     }
     Ok(())
