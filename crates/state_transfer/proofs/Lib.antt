@@ -11,4 +11,6 @@ pub mod ChunkLaws
 pub mod LeavingLaws
 pub mod StepLaws
 pub mod FaithfulTransferLaws
-pub mod TestLaws
+pub mod Routes
+pub mod ClosedLaws
+pub mod PairLaws

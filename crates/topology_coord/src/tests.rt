@@ -166,6 +166,43 @@ fn a_departure_is_repaired(rt: HostRuntime) -> Result<(), Fail> {
 }
 
 #[test]
+fn a_later_departure_loses_what_only_it_holds(rt: HostRuntime) -> Result<(), Fail> {
+    let steps = [
+        Step::Join(2),
+        Step::Announce(false, (2, Phase::ReadOld, b"0,1,0,", b"0,1,2,")),
+        Step::Install(3),
+        Step::Install(0),
+        Step::Announce(true, (3, Phase::ReadAll, b"0,1,0,", b"0,1,2,")),
+        Step::Depart(0, true, false, false),
+        Step::Install(2),
+        Step::Announce(false, (4, Phase::ReadAll, b"1,1,2,", b"1,1,2,")),
+        Step::Install(2),
+        Step::Announce(false, (5, Phase::ReadNew, b"1,1,2,", b"1,1,2,")),
+        Step::Install(2),
+        Step::Announce(false, (6, Phase::NoRebalance, b"1,1,2,", b"")),
+        Step::Install(2),
+        Step::Announce(false, (7, Phase::ReadOld, b"1,1,2,", b"1,2,1,")),
+    ];
+    let mut coord = Coord::new(rt.alloc(), 2, 3, 1)?;
+    assert!(rt; do_steps(rt.alloc(), &mut coord, &steps)?.is_none());
+    Ok(())
+}
+
+#[test]
+fn the_last_owner_loses_its_segment(rt: HostRuntime) -> Result<(), Fail> {
+    let steps = [
+        Step::Depart(0, false, false, false),
+        Step::Depart(1, true, false, false),
+        Step::Announce(false, (2, Phase::NoRebalance, b"2,", b"")),
+        Step::Install(1),
+        Step::Hold(true),
+    ];
+    let mut coord = Coord::new(rt.alloc(), 3, 1, 2)?;
+    assert!(rt; do_steps(rt.alloc(), &mut coord, &steps)?.is_none());
+    Ok(())
+}
+
+#[test]
 fn a_further_join_cancels(rt: HostRuntime) -> Result<(), Fail> {
     let steps = [
         Step::Join(1),

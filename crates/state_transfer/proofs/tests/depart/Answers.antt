@@ -1,4 +1,4 @@
-use Rattle.state_transfer.proofs.TestLaws.{closed_none, closed_provides_none}
+use Rattle.state_transfer.proofs.ClosedLaws.{closed_none, closed_provides_none}
 use Rattle.state_transfer.proofs.tests.depart.Goals as goal
 
 pub depart-requires-clause-no_receiver : goal.depart-requires-clause-no_receiver

@@ -1,4 +1,4 @@
-use Rattle.state_transfer.proofs.TestLaws.{closed_none, closed_provides_none}
+use Rattle.state_transfer.proofs.ClosedLaws.{closed_none, closed_provides_none}
 use Rattle.state_transfer.proofs.tests.drop_segment.Goals as goal
 
 pub drop_segment-requires-clause-no_receiver : goal.drop_segment-requires-clause-no_receiver

@@ -1,4 +1,4 @@
-use Rattle.state_transfer.proofs.TestLaws.{closed_provides_none}
+use Rattle.state_transfer.proofs.ClosedLaws.{closed_provides_none}
 use Rattle.state_transfer.proofs.tests.join.Goals as goal
 
 pub join-requires-clause-provides_none : goal.join-requires-clause-provides_none

@@ -1,4 +1,4 @@
-use Rattle.state_transfer.proofs.TestLaws.{closed_goes_on, closed_none, closed_provides_none}
+use Rattle.state_transfer.proofs.ClosedLaws.{closed_goes_on, closed_none, closed_provides_none}
 use Rattle.state_transfer.proofs.tests.sent.Goals as goal
 
 pub copy_chunk-requires-clause-goes_on : goal.copy_chunk-requires-clause-goes_on
