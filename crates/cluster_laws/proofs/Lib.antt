@@ -19,3 +19,11 @@ pub mod Starts
 pub mod Runs
 pub mod Batches
 pub mod CompletionRuns
+pub mod StageFacts
+pub mod StageSteps
+pub mod CallLinks
+pub mod CallRequests
+pub mod CallSteps
+pub mod CauseCalls
+pub mod StageNotes
+pub mod StageRuns

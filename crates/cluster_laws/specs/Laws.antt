@@ -1,15 +1,23 @@
 -- What holds in every run of a cluster. A past lists events, the newest first.
-use Rattle.std.specs.Prelude.{◌≡◌, ℕ, true, List, reverse}
+use Rattle.std.specs.Prelude.{◌≡◌, ℕ, Bool, true, false, List, reverse, None, Some}
+use Rattle.std.specs.FinSet as set_of
+use Rattle.std.specs.List.{AllByRecursion}
+use Rattle.delivery_mode.specs.Guarantee.{asks_again}
 use Rattle.grid_event.specs.Configs.{is_config}
 use Rattle.grid_event.specs.Members.{is_live, newest_topology}
+use Rattle.grid_event.specs.UnitHistories.{has_ended, is_gone, was_refused}
+use Rattle.grid_event.specs.declared.call_events.Ask.{Ask}
 use Rattle.grid_event.specs.declared.config.Config.{Config}
 use Rattle.grid_event.specs.declared.event.Event.{Event}
+use Rattle.local_publisher.specs.declared.unit_state.UnitState.{UnitState}
+use Rattle.local_publisher.specs.declared.unit_state.UnitState.TheVariants.{Refused}
 use Rattle.state_transfer.specs.Copying.{copy_at}
 use Rattle.topology_coord.specs.Coordination.{topology_of}
 use Rattle.topology_phase.specs.Owners.{among}
 use Rattle.topology_phase.specs.Topologies.{holders, read_owners}
+use Rattle.cluster_model.specs.Causes.{was_lost}
 use Rattle.cluster_model.specs.Kept.{IsKept}
-use Rattle.cluster_model.specs.State.{State, start}
+use Rattle.cluster_model.specs.State.{Call, State, Unit, call_of, is_ended, is_lost, start}
 use Rattle.cluster_model.specs.Step.{runs, state}
 use Rattle.cluster_model.specs.Told.{IsTold, contents_of, installed_by}
 
@@ -40,3 +48,33 @@ EventsTellTheState = (config : Config) (events : List Event) → is_config confi
 abbrev pub EventsKeepAll : Type 0
 EventsKeepAll = (config : Config) (events : List Event) → is_config config ≡ true → runs (start config) events ≡ true
     → IsKept config (reverse events) (state (start config) events)
+
+abbrev pub is_refused : UnitState → Bool
+is_refused (Refused at) = true
+is_refused _ = false
+
+-- what was asked for a unit
+abbrev pub ask_of : Unit → Ask
+ask_of unit = record { unit = unit.work.id; segment = unit.work.segment; node = unit.work.node }
+
+-- a unit's stage is Refused, Lost or Ended exactly where the events say that it was refused, is gone or has ended
+pub record TellsStage (config : Config) (past : List Event) (unit : Unit) : Type 0 where
+  pub refused : is_refused unit.work.state ≡ was_refused past unit.work.id
+  pub lost : is_lost unit.work.state ≡ is_gone config past (ask_of unit)
+  pub ended : is_ended unit.work.state ≡ has_ended past unit.work.id
+
+-- an unanswered call that asks again has noted as lost exactly the segments that a departure since it was made lost before they
+-- had ended for it
+abbrev pub TellsLosses : Config → List Event → ℕ → Call → Type 0
+TellsLosses config past number call =
+    call.outcome ≡ None → asks_again call.request.guarantee ≡ true → (segment : ℕ) → set_of.contains call.lost segment ≡ was_lost config past number segment
+
+-- the events tell the stages of all units, and the noted segments of all calls
+pub record TellsStages (config : Config) (past : List Event) (st : State) : Type 0 where
+  pub units : AllByRecursion (TellsStage config past) st.units
+  pub calls : (number : ℕ) (call : Call) → call_of st number ≡ Some call → TellsLosses config past number call
+
+-- in every run the events tell stages and noted segments
+abbrev pub StagesAreTold : Type 0
+StagesAreTold = (config : Config) (events : List Event) → is_config config ≡ true → runs (start config) events ≡ true
+    → TellsStages config (reverse events) (state (start config) events)

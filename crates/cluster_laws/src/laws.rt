@@ -1,6 +1,6 @@
 //! The laws. None does any work: a call of one hands what it ensures to the caller's proof.
 
-ghost use Rattle.cluster_laws.specs.Laws.{CopiesHold, EventsKeepAll, EventsTellTheState};
+ghost use Rattle.cluster_laws.specs.Laws.{CopiesHold, EventsKeepAll, EventsTellTheState, StagesAreTold};
 ghost use Rattle.cluster_model.specs.Completion.{Completion};
 
 /// In every run of a cluster whose settings are in their limits, each live holder of a segment by
@@ -26,4 +26,11 @@ pub fn events_keep_all()
 /// so is past the last key once the last batch was read.
 pub fn units_are_completed()
     ensures { Completion }
+{}
+
+/// In every such run a unit's stage is Refused, Lost or Ended exactly where the events say that it
+/// was refused, is gone or has ended; and an unanswered call that asks again has noted as lost
+/// exactly the segments that a departure since it was made lost before they had ended for it.
+pub fn stages_are_told()
+    ensures { StagesAreTold }
 {}

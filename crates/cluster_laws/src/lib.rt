@@ -3,4 +3,6 @@
 
 mod laws;
 
-pub use laws::{copies_hold, events_keep_all, events_tell_the_state, units_are_completed};
+pub use laws::{
+    copies_hold, events_keep_all, events_tell_the_state, stages_are_told, units_are_completed,
+};
