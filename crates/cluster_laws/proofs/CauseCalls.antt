@@ -46,7 +46,8 @@ found_departed st node number call e =
     let was = changed_some (notes_losses st.units (lost_segments st.coord node) number) (call_of st number) call (sym (call_each (notes_losses st.units (lost_segments st.coord node)) st.calls number) ∙ e) in
     (was.0, (was.1, was.2))
 
-same_some : {A : Type 0} (a b : A) → Some a ≡ Some b → a ≡ b
+-- what is there of two equal options
+pub same_some : {A : Type 0} (a b : A) → Some a ≡ Some b → a ≡ b
 same_some a b e = ap (λ o. unwrap_or o a) e
 
 -- after a call is made: it is the one, or was found before

@@ -27,3 +27,13 @@ pub mod CallSteps
 pub mod CauseCalls
 pub mod StageNotes
 pub mod StageRuns
+pub mod CauseUnits
+pub mod CauseIds
+pub mod CauseWords
+pub mod CauseDates
+pub mod CauseRounds
+pub mod CauseMoves
+pub mod CauseFollows
+pub mod CauseQuiet
+pub mod CauseOutcomes
+pub mod CauseRuns

@@ -15,7 +15,7 @@ use Rattle.state_transfer.specs.Copying.{copy_at}
 use Rattle.topology_coord.specs.Coordination.{topology_of}
 use Rattle.topology_phase.specs.Owners.{among}
 use Rattle.topology_phase.specs.Topologies.{holders, read_owners}
-use Rattle.cluster_model.specs.Causes.{was_lost}
+use Rattle.cluster_model.specs.Causes.{Caused, EnoughRoundsSuffice, QuietCallIsWhole, was_lost}
 use Rattle.cluster_model.specs.Kept.{IsKept}
 use Rattle.cluster_model.specs.State.{Call, State, Unit, call_of, is_ended, is_lost, start}
 use Rattle.cluster_model.specs.Step.{runs, state}
@@ -78,3 +78,15 @@ pub record TellsStages (config : Config) (past : List Event) (st : State) : Type
 abbrev pub StagesAreTold : Type 0
 StagesAreTold = (config : Config) (events : List Event) → is_config config ≡ true → runs (start config) events ≡ true
     → TellsStages config (reverse events) (state (start config) events)
+
+-- an answered call has its cause; one that was quiet and asks again has a value, or is a walk that ended; and one with enough
+-- rounds doesn't give up
+pub record HasCause (config : Config) (past : List Event) (call : ℕ) : Type 0 where
+  pub caused : Caused config past call
+  pub quiet : QuietCallIsWhole config past call
+  pub enough : EnoughRoundsSuffice past call
+
+-- in every run all outcomes are caused
+abbrev pub OutcomesAreCaused : Type 0
+OutcomesAreCaused = (config : Config) (events : List Event) → is_config config ≡ true → runs (start config) events ≡ true
+    → (call : ℕ) → HasCause config (reverse events) call

@@ -1,6 +1,12 @@
 //! The laws. None does any work: a call of one hands what it ensures to the caller's proof.
 
-ghost use Rattle.cluster_laws.specs.Laws.{CopiesHold, EventsKeepAll, EventsTellTheState, StagesAreTold};
+ghost use Rattle.cluster_laws.specs.Laws.{
+  CopiesHold,
+  EventsKeepAll,
+  EventsTellTheState,
+  OutcomesAreCaused,
+  StagesAreTold,
+};
 ghost use Rattle.cluster_model.specs.Completion.{Completion};
 
 /// In every run of a cluster whose settings are in their limits, each live holder of a segment by
@@ -33,4 +39,12 @@ pub fn units_are_completed()
 /// exactly the segments that a departure since it was made lost before they had ended for it.
 pub fn stages_are_told()
     ensures { StagesAreTold }
+{}
+
+/// In every such run the outcome of each answered call is the first cause that applies to what went
+/// before the answer, with what is further said of it. A call that asks again, and in whose span
+/// nothing moved, is answered by a value or by its end; and a call with more rounds than one plus
+/// what moved for it doesn't give up.
+pub fn outcomes_are_caused()
+    ensures { OutcomesAreCaused }
 {}
