@@ -8,9 +8,8 @@ use Rattle.grid_event.specs.declared.call_events.RoundEvent.{RoundEvent}
 use Rattle.grid_event.specs.declared.config.Config.{Config}
 use Rattle.grid_event.specs.declared.event.Event.{Event}
 use Rattle.grid_event.specs.declared.event.Event.TheVariants.{Write, Erase, Tick, Join, Depart, Announce, Install, Copy, Land, Invoke, Round, Begin, Scan, Fetch, Take, Done, Answer}
-use Rattle.local_publisher.specs.Stages.{is_open}
 use Rattle.local_publisher.specs.declared.unit_state.UnitState.{UnitState}
-use Rattle.local_publisher.specs.declared.unit_state.UnitState.TheVariants.{Asked, Running, Refused, Lost, Ended}
+use Rattle.local_publisher.specs.declared.unit_state.UnitState.TheVariants.{Running, Refused, Lost}
 use Rattle.suspect_retry.specs.Rounds.{closed_at}
 use Rattle.topology_coord.proofs.MemberLaws.{installed-departs, installed-installs, installed-joins, lives-departs}
 use Rattle.topology_coord.specs.Changes.{announces, departs, installs, joins}
@@ -26,7 +25,7 @@ use Rattle.cluster_model.specs.Step.{allowed, changed}
 use Rattle.cluster_model.specs.Told.{topology_numbered}
 use Rattle.cluster_model.specs.Topologies.{announced, departed, installed, joined}
 use Rattle.cluster_model.specs.Units.{reads}
-use Rattle.cluster_laws.proofs.CauseUnits.{FreshAsk, RoundKnown, StageStep, UnitStep, each_unit}
+use Rattle.cluster_laws.proofs.CauseUnits.{asked_opens, FreshAsk, RoundKnown, StageStep, UnitStep, each_unit}
 use Rattle.cluster_laws.proofs.Histories.{installed_told_by}
 use Rattle.cluster_laws.proofs.Lists.{each_both}
 use Rattle.cluster_laws.proofs.Numbers.{NumberedFrom}
@@ -191,13 +190,6 @@ module _ (config : Config) (past : List Event) (st : State) (event : Event) (kep
           with_stage before after u h (λ n. omega arith)
           (λ r. let y : is_running after.work.state ≡ false = ap is_running e in absurd (cc))
           (let t = at_most_newest config.segments st.coord kept.parts.topologies before.work.node in let n = step.newest in omega arith)
-        where
-          asked_opens : (stage : UnitState) → is_asked stage ≡ true → is_open stage ≡ true
-          asked_opens Asked h = refl
-          asked_opens Running h = absurd (cc)
-          asked_opens (Refused at) h = absurd (cc)
-          asked_opens (Lost at) h = absurd (cc)
-          asked_opens Ended h = absurd (cc)
 
       by_stage : StageStep st event before after.work.state → IdsOf config (event ∷ past) later after
       by_stage (StageStep.Stays e) =

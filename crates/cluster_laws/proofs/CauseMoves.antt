@@ -162,7 +162,8 @@ unmoved_aside past st event call node other nobody m live = record {
   nobody = nobody;
 }
 
-either_false : (a b : Bool) → (a || b) ≡ false → (a ≡ false) × (b ≡ false)
+-- where neither of two tests passes, each fails
+pub either_false : (a b : Bool) → (a || b) ≡ false → (a ≡ false) × (b ≡ false)
 either_false true b h = absurd (cc)
 either_false false b h = (refl, h)
 

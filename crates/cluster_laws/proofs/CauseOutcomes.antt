@@ -33,6 +33,7 @@ use Rattle.cluster_laws.proofs.CauseFollows.{KnownCall}
 use Rattle.cluster_laws.proofs.CauseQuiet.{AllQuiet, IsGood, QuietOf}
 use Rattle.cluster_laws.proofs.CauseRounds.{RoundsOf, each_round_fails, last_round_fails}
 use Rattle.cluster_laws.proofs.CauseWords.{each_last, losses_leave_nobody, none_true, quiet_nobody_left, quiet_nothing_lost, row_below}
+use Rattle.cluster_laws.proofs.Facts.{turned}
 use Rattle.cluster_laws.proofs.Lists.{each_both}
 use Rattle.cluster_laws.proofs.StageRuns.{IsTraced, ends_told}
 use Rattle.cluster_laws.proofs.StageSteps.{StageKept}
@@ -203,10 +204,6 @@ module _ (config : Config) (past : List Event) (st : State) (few : config.segmen
     pub closed : has_open st number ≡ false
     pub within : suspect < config.segments
     pub left : has_ended_on past number suspect ≡ false
-
-  turned : (b : Bool) → not b ≡ true → b ≡ false
-  turned true e = absurd (cc)
-  turned false e = refl
 
   again_of : (rounds suspect : ℕ) → outcome_of st number call ≡ Some (outcomes.Again rounds suspect) → GivesUp suspect
   unfolding outcome_of

@@ -9,9 +9,8 @@ use Rattle.grid_event.specs.declared.call_events.RoundEvent.{RoundEvent}
 use Rattle.grid_event.specs.declared.config.Config.{Config}
 use Rattle.grid_event.specs.declared.event.Event.{Event}
 use Rattle.grid_event.specs.declared.event.Event.TheVariants.{Write, Erase, Tick, Join, Depart, Announce, Install, Copy, Land, Invoke, Round, Begin, Scan, Fetch, Take, Done, Answer}
-use Rattle.local_publisher.specs.Stages.{is_open}
 use Rattle.local_publisher.specs.declared.unit_state.UnitState.{UnitState}
-use Rattle.local_publisher.specs.declared.unit_state.UnitState.TheVariants.{Asked, Running, Refused, Lost, Ended}
+use Rattle.local_publisher.specs.declared.unit_state.UnitState.TheVariants.{Running, Refused}
 use Rattle.topology_coord.proofs.FirstNodes.{in_row}
 use Rattle.topology_coord.proofs.MemberLaws.{each_of, installed-joins, lives-joins}
 use Rattle.topology_coord.specs.Changes.{joins}
@@ -21,15 +20,16 @@ use Rattle.topology_phase.specs.Topologies.{Topology}
 use Rattle.cluster_model.proofs.Frames.{coord_stays}
 use Rattle.cluster_model.specs.Calls.{can_invoke}
 use Rattle.cluster_model.specs.Causes.{disturbs, is_even, rounds_of, was_even}
+use Rattle.cluster_model.specs.Guarantees.{rounds_in}
 use Rattle.cluster_model.specs.Laws.{moves_members}
-use Rattle.cluster_model.specs.State.{Call, State, Unit, call_of, is_asked, is_lost, is_of}
+use Rattle.cluster_model.specs.State.{Call, State, Unit, call_of, is_lost, is_of}
 use Rattle.cluster_model.specs.Step.{allowed, changed}
 use Rattle.cluster_model.specs.Topologies.{can_join, joined}
 use Rattle.cluster_model.specs.Units.{reads}
 use Rattle.cluster_laws.proofs.CallLinks.{rounds_found}
 use Rattle.cluster_laws.proofs.CauseDates.{DatesTold, dated, dates}
 use Rattle.cluster_laws.proofs.CauseIds.{IdsOf, refused_behind}
-use Rattle.cluster_laws.proofs.CauseUnits.{StageStep, UnitStep, each_unit}
+use Rattle.cluster_laws.proofs.CauseUnits.{asked_opens, StageStep, UnitStep, each_unit}
 use Rattle.cluster_laws.proofs.CauseWords.{count_rounds}
 use Rattle.cluster_laws.proofs.Lists.{each_both, each_imply}
 use Rattle.cluster_laws.proofs.StageRuns.{IsTraced}
@@ -110,13 +110,6 @@ module _ (config : Config) (past : List Event) (st : State) (h : IsTraced config
         (each_both (IsGood st.coord call) (Placed st.coord) (λ unit. IsGood st.coord call unit × Placed st.coord unit) (λ unit a b. (a, b)) st.units quiet.good h.placed) ids);
   }
     where
-      asked_opens : (stage : UnitState) → is_asked stage ≡ true → is_open stage ≡ true
-      asked_opens Asked h = refl
-      asked_opens Running h = absurd (cc)
-      asked_opens (Refused at) h = absurd (cc)
-      asked_opens (Lost at) h = absurd (cc)
-      asked_opens Ended h = absurd (cc)
-
       fails : UnitState → Bool
       fails stage = is_refused stage || is_lost stage
 
@@ -145,17 +138,21 @@ module _ (config : Config) (past : List Event) (st : State) (h : IsTraced config
           let g = good (ap (λ n. n == call) (sym u.call) ∙ of) in
           (u.asked_at ∙ g.0 ∙ sym step.newest, by_stage before after.work.state g placed ids u.stage)
 
-  -- a call that isn't there has no units
+  -- a call without a round has no units
+  pub unasked_of : DatesTold past st.units → (call : ℕ) → rounds_in past call ≡ 0 → AllByRecursion (λ unit. is_of call unit ≡ false) st.units
+  unasked_of told call none = none_passes dated (is_of call) st.units (sym (told call) ∙ ap dates (no_rounds (rounds_of past call) (sym (count_rounds past call) ∙ none)))
+    where
+      no_rounds : (rounds : List RoundEvent) → length rounds ≡ 0 → rounds ≡ []
+      no_rounds [] e = refl
+      no_rounds (r ∷ rounds) e = absurd (omega arith)
+
+  -- and so has one that isn't there
   none_of_it : DatesTold past st.units → (call : ℕ) → is_none (call_of st call) ≡ true → AllByRecursion (λ unit. is_of call unit ≡ false) st.units
-  none_of_it told call none = none_passes dated (is_of call) st.units (sym (told call) ∙ ap dates (no_rounds (rounds_of past call) (sym (count_rounds past call) ∙ (h.calls call).rounds ∙ by_none (call_of st call) none)))
+  none_of_it told call none = unasked_of told call ((h.calls call).rounds ∙ by_none (call_of st call) none)
     where
       by_none : (found : Option Call) → is_none found ≡ true → rounds_found found ≡ 0
       by_none None e = refl
       by_none (Some call) e = absurd (cc)
-
-      no_rounds : (rounds : List RoundEvent) → length rounds ≡ 0 → rounds ≡ []
-      no_rounds [] e = refl
-      no_rounds (r ∷ rounds) e = absurd (omega arith)
 
   -- where all live nodes have the newest topology when a call is made, it starts quiet
   even_told : FewMembers config past → is_even config past ≡ true → (n : ℕ) → lives st.coord n ≡ true → installed_id st.coord n ≡ st.coord.newest.id

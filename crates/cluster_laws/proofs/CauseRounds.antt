@@ -10,9 +10,6 @@ use Rattle.grid_event.specs.declared.call_events.RoundEvent.{RoundEvent}
 use Rattle.grid_event.specs.declared.config.Config.{Config}
 use Rattle.grid_event.specs.declared.event.Event.{Event}
 use Rattle.grid_event.specs.declared.event.Event.TheVariants.{Write, Erase, Tick, Join, Depart, Announce, Install, Copy, Land, Invoke, Round, Begin, Scan, Fetch, Take, Done, Answer}
-use Rattle.local_publisher.specs.Stages.{is_open}
-use Rattle.local_publisher.specs.declared.unit_state.UnitState.{UnitState}
-use Rattle.local_publisher.specs.declared.unit_state.UnitState.TheVariants.{Asked, Running, Refused, Lost, Ended}
 use Rattle.topology_coord.proofs.FirstNodes.{in_row}
 use Rattle.topology_coord.specs.Coordination.{installed_id}
 use Rattle.topology_phase.proofs.OwnerLists.{among-filter}
@@ -26,7 +23,7 @@ use Rattle.cluster_model.specs.Topologies.{is_complete}
 use Rattle.cluster_model.specs.Units.{can_begin, can_begin_unit, reads}
 use Rattle.cluster_laws.proofs.CauseDates.{DatesTold, closed_is, dated, each_dated}
 use Rattle.cluster_laws.proofs.CauseIds.{IdsOf, refused_behind}
-use Rattle.cluster_laws.proofs.CauseUnits.{RoundKnown, round_known}
+use Rattle.cluster_laws.proofs.CauseUnits.{asked_opens, RoundKnown, round_known}
 use Rattle.cluster_laws.proofs.CauseWords.{all_true, all_wider, any_wider, but_last, but_last-push, ended_on_more, failed_more, last_asks-push, last_failed, rounds_failed, row_below, some_fails}
 use Rattle.cluster_laws.proofs.Lists.{each_both, each_imply}
 use Rattle.cluster_laws.proofs.StageRuns.{IsTraced, ends_told}
@@ -145,13 +142,6 @@ module _ (config : Config) (past : List Event) (st : State) (h : IsTraced config
           ∙ (λ i. not ((sym (ends_told config past st h r.call segment) ∙ left) i) && in_row 0 st.config.segments segment (omega arith) (omega arith) i)
 
   -- ---- begins
-
-  asked_opens : (stage : UnitState) → is_asked stage ≡ true → is_open stage ≡ true
-  asked_opens Asked h = refl
-  asked_opens Running h = absurd (cc)
-  asked_opens (Refused at) h = absurd (cc)
-  asked_opens (Lost at) h = absurd (cc)
-  asked_opens Ended h = absurd (cc)
 
   not_so : (b : Bool) → beq false b ≡ true → b ≡ false
   not_so true h = absurd (cc)

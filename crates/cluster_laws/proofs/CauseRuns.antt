@@ -179,7 +179,7 @@ module _ (config : Config) (few : config.segments ≤ MOST_SEGMENTS) (past : Lis
       }
 
 -- the limits of a configuration that are needed here
-few_segments : (config : Config) → is_config config ≡ true → config.segments ≤ MOST_SEGMENTS
+pub few_segments : (config : Config) → is_config config ≡ true → config.segments ≤ MOST_SEGMENTS
 few_segments config good =
     let a = and_parts (is_up_to MOST_NODES config.nodes) _ good in
     let b = and_parts (is_up_to MOST_SEGMENTS config.segments) _ a.1 in

@@ -3,7 +3,7 @@ use Rattle.std.proofs.Common.{◌≡◌, ℕ, ◌+◌, ◌≤◌, ◌<◌, ◌==
 use Rattle.std.proofs.lemmas.Bool.{and_parts, eq-eqb, eqb-true, leb-true, ltb-true, or_left, or_right}
 use Rattle.std.specs.Bool.{beq}
 use Rattle.std.specs.FinSet as set_of
-use Rattle.std.specs.List.{AllByRecursion, list_all}
+use Rattle.std.specs.List.{AllByRecursion, filter, list_all}
 use Rattle.grid_event.specs.declared.call_events.Ask.{Ask}
 use Rattle.grid_event.specs.declared.call_events.RoundEvent.{RoundEvent}
 use Rattle.grid_event.specs.declared.event.Event.{Event}
@@ -11,7 +11,7 @@ use Rattle.grid_event.specs.declared.event.Event.TheVariants.{Write, Erase, Tick
 use Rattle.local_publisher.specs.Stages.{is_open}
 use Rattle.local_publisher.specs.Units.{ended, extended}
 use Rattle.local_publisher.specs.declared.unit_state.UnitState.{UnitState}
-use Rattle.local_publisher.specs.declared.unit_state.UnitState.TheVariants.{Running, Refused, Lost, Ended}
+use Rattle.local_publisher.specs.declared.unit_state.UnitState.TheVariants.{Asked, Running, Refused, Lost, Ended}
 use Rattle.topology_coord.specs.Coordination.{Coordination, first_live, installed_id, lives, some_live, topology_of}
 use Rattle.topology_phase.specs.Owners.{among}
 use Rattle.topology_phase.specs.Topologies.{read_owners}
@@ -19,12 +19,13 @@ use Rattle.cluster_model.proofs.Frames.{units_stays}
 use Rattle.cluster_model.specs.Calls.{all_complete, asks_from, asks_of, can_round, granted, has_caught_up, has_open, incomplete, is_due, is_next_round, rounded, unit_asked}
 use Rattle.cluster_model.specs.Laws.{moves_units}
 use Rattle.cluster_model.specs.Same.{same_asks}
-use Rattle.cluster_model.specs.State.{Call, State, Unit, call_of, goes_on, is_asked, is_open_unit, is_running, with_loss}
+use Rattle.cluster_model.specs.State.{Call, State, Unit, call_of, goes_on, is_asked, is_open_unit, is_running, segments_of, with_loss}
 use Rattle.cluster_model.specs.Step.{allowed, changed}
-use Rattle.cluster_model.specs.Topologies.{can_install, ceases, departed, installed}
+use Rattle.cluster_model.specs.Topologies.{can_install, ceases, departed, installed, is_complete}
 use Rattle.cluster_model.specs.Units.{begun_unit, can_begin, can_begin_unit, can_end, can_end_unit, ended_unit, fetched, reads, scanned, taken_by, with_begin}
 use Rattle.cluster_model.specs.Writes.{has_reader}
 use Rattle.cluster_laws.proofs.CallRequests.{GoesOn, going}
+use Rattle.cluster_laws.proofs.Facts.{turned}
 use Rattle.cluster_laws.proofs.Lists.{each-append, each_any, each_changed, each_imply}
 use Rattle.cluster_laws.proofs.Numbers.{NumberedFrom}
 use Rattle.cluster_laws.proofs.UnitFacts.{each_named, same_asks-exact}
@@ -62,14 +63,20 @@ pub record RoundKnown (st : State) (r : RoundEvent) (call : Call) : Type 0 where
   pub caught_up : has_caught_up st call ≡ true
   pub asks : r.asks ≡ asks_of st r.call call
 
--- what is known of an ask of a round: its number is new, and its node reads the segment by the originator's topology
+-- what is known of an ask of a round: its number is new, its segment is one of the cluster's, and its node reads the segment by
+-- the originator's topology
 pub record FreshAsk (st : State) (originator : ℕ) (ask : Ask) : Type 0 where
   pub number : length st.units < ask.unit
+  pub within : among ask.segment (segments_of st) ≡ true
   pub reads : among ask.node (read_owners (topology_of st.coord originator) ask.segment) ≡ true
 
-turned : (b : Bool) → not b ≡ true → b ≡ false
-turned true h = absurd (cc)
-turned false h = refl
+-- a unit that was asked is open
+pub asked_opens : (stage : UnitState) → is_asked stage ≡ true → is_open stage ≡ true
+asked_opens Asked h = refl
+asked_opens Running h = absurd (cc)
+asked_opens (Refused at) h = absurd (cc)
+asked_opens (Lost at) h = absurd (cc)
+asked_opens Ended h = absurd (cc)
 
 known_by : (st : State) (r : RoundEvent) (call : Call) → GoesOn st (call_of st r.call) call → is_next_round st r (Some call) ≡ true → RoundKnown st r call
 known_by st r call on next =
@@ -109,17 +116,26 @@ first_among c (n ∷ nodes) h = by_head (lives c n) h (first_among c nodes)
     by_head true h rest = or_left (n == n) (among n nodes) (eq-eqb n n refl)
     by_head false h rest = or_right (n == unwrap_or (first_live c nodes) 0) (among (unwrap_or (first_live c nodes) 0) nodes) (rest h)
 
-fresh_from : (st : State) (originator n : ℕ) (segments : List ℕ) → length st.units < n → list_all (has_reader st originator) segments ≡ true → AllByRecursion (FreshAsk st originator) (asks_from st originator n segments)
-fresh_from st originator n [] more all = tt
-fresh_from st originator n (segment ∷ segments) more all =
+-- those of some numbers that pass a test are among them
+each_kept : (p : ℕ → Bool) (xs ys : List ℕ) → ((s : ℕ) → among s xs ≡ true → among s ys ≡ true) → AllByRecursion (λ s. among s ys ≡ true) (filter p xs)
+each_kept p [] ys sub = tt
+each_kept p (x ∷ xs) ys sub = by_test (p x) (each_kept p xs ys (λ s there. sub s (or_right (x == s) (among s xs) there)))
+  where
+    by_test : (b : Bool) → AllByRecursion (λ s. among s ys ≡ true) (filter p xs) → AllByRecursion (λ s. among s ys ≡ true) (if b then x ∷ filter p xs else filter p xs)
+    by_test true rest = (sub x (or_left (x == x) (among x xs) (eq-eqb x x refl)), rest)
+    by_test false rest = rest
+
+fresh_from : (st : State) (originator n : ℕ) (segments : List ℕ) → length st.units < n → AllByRecursion (λ s. among s (segments_of st) ≡ true) segments → list_all (has_reader st originator) segments ≡ true → AllByRecursion (FreshAsk st originator) (asks_from st originator n segments)
+fresh_from st originator n [] more inside all = tt
+fresh_from st originator n (segment ∷ segments) more inside all =
     let p = and_parts (has_reader st originator segment) (list_all (has_reader st originator) segments) all in (
-      record { number = more; reads = first_among st.coord (read_owners (topology_of st.coord originator) segment) p.0 },
-      fresh_from st originator (n + 1) segments (omega arith) p.1,
+      record { number = more; within = inside.0; reads = first_among st.coord (read_owners (topology_of st.coord originator) segment) p.0 },
+      fresh_from st originator (n + 1) segments (omega arith) inside.1 p.1,
     )
 
 pub fresh_asks : (st : State) (r : RoundEvent) (call : Call) → RoundKnown st r call → AllByRecursion (FreshAsk st call.originator) r.asks
 fresh_asks st r call known =
-    subst (AllByRecursion (FreshAsk st call.originator)) (sym known.asks) (fresh_from st call.originator (length st.units + 1) (incomplete st r.call) (omega arith) known.readers)
+    subst (AllByRecursion (FreshAsk st call.originator)) (sym known.asks) (fresh_from st call.originator (length st.units + 1) (incomplete st r.call) (omega arith) (each_kept (λ segment. not (is_complete st.units r.call segment)) (segments_of st) (segments_of st) (λ s there. there)) known.readers)
 
 -- ---- each unit after an event
 

@@ -37,3 +37,8 @@ pub mod CauseFollows
 pub mod CauseQuiet
 pub mod CauseOutcomes
 pub mod CauseRuns
+pub mod StuckUnits
+pub mod StuckTopologies
+pub mod StuckAdvance
+pub mod StuckKept
+pub mod StuckRuns

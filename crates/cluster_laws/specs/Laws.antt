@@ -1,24 +1,30 @@
 -- What holds in every run of a cluster. A past lists events, the newest first.
-use Rattle.std.specs.Prelude.{◌≡◌, ℕ, Bool, true, false, List, reverse, None, Some}
+use Rattle.std.specs.Prelude.{◌≡◌, ℕ, nat_le, Bool, true, false, ◌&&◌, List, length, reverse, None, Some, is_none, is_some}
 use Rattle.std.specs.FinSet as set_of
 use Rattle.std.specs.List.{AllByRecursion}
 use Rattle.delivery_mode.specs.Guarantee.{asks_again}
+use Rattle.grid_base.specs.declared.limits.TheConstants.{MOST_EVENTS, MOST_WEIGHT}
 use Rattle.grid_event.specs.Configs.{is_config}
 use Rattle.grid_event.specs.Members.{is_live, newest_topology}
 use Rattle.grid_event.specs.UnitHistories.{has_ended, is_gone, was_refused}
+use Rattle.grid_event.specs.Weights.{total_weight}
 use Rattle.grid_event.specs.declared.call_events.Ask.{Ask}
 use Rattle.grid_event.specs.declared.config.Config.{Config}
 use Rattle.grid_event.specs.declared.event.Event.{Event}
 use Rattle.local_publisher.specs.declared.unit_state.UnitState.{UnitState}
 use Rattle.local_publisher.specs.declared.unit_state.UnitState.TheVariants.{Refused}
 use Rattle.state_transfer.specs.Copying.{copy_at}
-use Rattle.topology_coord.specs.Coordination.{topology_of}
+use Rattle.topology_coord.specs.Coordination.{all_installed, topology_of}
 use Rattle.topology_phase.specs.Owners.{among}
+use Rattle.topology_phase.specs.Phases.{same_phase}
 use Rattle.topology_phase.specs.Topologies.{holders, read_owners}
+use Rattle.topology_phase.specs.declared.phase.Phase.TheVariants.{NoRebalance}
 use Rattle.cluster_model.specs.Causes.{Caused, EnoughRoundsSuffice, QuietCallIsWhole, was_lost}
+use Rattle.cluster_model.specs.Commands.{advance_event, drive_event, is_unanswered}
 use Rattle.cluster_model.specs.Kept.{IsKept}
 use Rattle.cluster_model.specs.State.{Call, State, Unit, call_of, is_ended, is_lost, start}
 use Rattle.cluster_model.specs.Step.{runs, state}
+use Rattle.cluster_model.specs.Topologies.{next_topology}
 use Rattle.cluster_model.specs.Told.{IsTold, contents_of, installed_by}
 
 -- a live holder of a segment by the newest topology has exactly the map's part of it, deadlines included; and a live node that
@@ -90,3 +96,21 @@ pub record HasCause (config : Config) (past : List Event) (call : ℕ) : Type 0 
 abbrev pub OutcomesAreCaused : Type 0
 OutcomesAreCaused = (config : Config) (events : List Event) → is_config config ≡ true → runs (start config) events ≡ true
     → (call : ℕ) → HasCause config (reverse events) call
+
+-- a journal holds the events: there are at most 1,000,000, with at most 2,000,000 entries and items
+abbrev pub fits_journal : List Event → Bool
+fits_journal events = nat_le (length events) MOST_EVENTS && nat_le (total_weight events) MOST_WEIGHT
+
+-- the topology is settled: every live node has installed the newest one, nothing moves, and no topology is next
+abbrev pub is_settled : State → Bool
+is_settled st = all_installed st.coord && (same_phase st.coord.newest.phase NoRebalance && is_none (next_topology st))
+
+-- a call that isn't answered may be driven on, and so may the topology be until it is settled
+pub record NothingIsStuck (st : State) : Type 0 where
+  pub drive : (call : ℕ) → is_unanswered (call_of st call) ≡ true → is_some (drive_event st call) ≡ true
+  pub advance : is_settled st ≡ false → is_some (advance_event st) ≡ true
+
+-- after every run that a journal holds nothing is stuck
+abbrev pub NoCallIsStuck : Type 0
+NoCallIsStuck = (config : Config) (events : List Event) → is_config config ≡ true → runs (start config) events ≡ true
+    → fits_journal events ≡ true → NothingIsStuck (state (start config) events)

@@ -4,6 +4,7 @@ ghost use Rattle.cluster_laws.specs.Laws.{
   CopiesHold,
   EventsKeepAll,
   EventsTellTheState,
+  NoCallIsStuck,
   OutcomesAreCaused,
   StagesAreTold,
 };
@@ -47,4 +48,11 @@ pub fn stages_are_told()
 /// what moved for it doesn't give up.
 pub fn outcomes_are_caused()
     ensures { OutcomesAreCaused }
+{}
+
+/// After every such run that a journal holds, with at most 1,000,000 events and at most 2,000,000
+/// entries and items, Drive of an unanswered call has an event, and Advance has one until the
+/// topology is settled.
+pub fn no_call_is_stuck()
+    ensures { NoCallIsStuck }
 {}

@@ -4,6 +4,6 @@
 mod laws;
 
 pub use laws::{
-    copies_hold, events_keep_all, events_tell_the_state, outcomes_are_caused, stages_are_told,
-    units_are_completed,
+    copies_hold, events_keep_all, events_tell_the_state, no_call_is_stuck, outcomes_are_caused,
+    stages_are_told, units_are_completed,
 };
