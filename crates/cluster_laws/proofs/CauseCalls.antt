@@ -31,6 +31,7 @@ pub record WasFound (st : State) (number : ℕ) (call : Call) : Type 0 where
   pub lost : call.lost ≡ before.lost
   pub outcome : call.outcome ≡ before.outcome
 
+-- a call that is found now as before
 was_itself : (st : State) (number : ℕ) (call : Call) → call_of st number ≡ Some call → WasFound st number call
 was_itself st number call e = record { before = call; there = e; originator = refl; request = refl; rounds = refl; last_round = refl; lost = refl; outcome = refl }
 

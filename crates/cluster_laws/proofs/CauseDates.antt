@@ -29,6 +29,7 @@ use Rattle.cluster_laws.specs.Laws.{ask_of, is_refused}
 abbrev pub dated : Unit → Ask × ℕ
 dated unit = (ask_of unit, unit.work.asked_at)
 
+-- the asks of some rounds in order, each with the topology of its round
 abbrev pub dates : List RoundEvent → List (Ask × ℕ)
 dates [] = []
 dates (r ∷ rounds) = map (λ (a : Ask). (a, r.id)) r.asks ++ dates rounds
@@ -39,6 +40,7 @@ DatesTold past units = (call : ℕ) → dates (rounds_of past call) ≡ map date
 
 -- ---- each event
 
+-- a change of units that leaves who asked for them, and at which topology
 dates_changed : (change : Unit → Unit) → ((unit : Unit) → dated (change unit) ≡ dated unit) → ((unit : Unit) → (change unit).work.call ≡ unit.work.call) → (call : ℕ) (units : List Unit) →
     map dated (filter (is_of call) (map change units)) ≡ map dated (filter (is_of call) units)
 dates_changed change a c call [] = refl
@@ -51,6 +53,7 @@ dates_changed change a c call (unit ∷ units) =
     by_call true h = λ i. a unit i ∷ h i
     by_call false h = h
 
+-- and such a change of those that pass a test
 dates_tested : (past : List Event) (test : Unit → Bool) (change : Unit → Unit) (units : List Unit) → ((unit : Unit) → dated (change unit) ≡ dated unit) → ((unit : Unit) → (change unit).work.call ≡ unit.work.call) →
     DatesTold past units → DatesTold past (map (λ unit. cond (test unit) (change unit) unit) units)
 dates_tested past test change units a c h call =
@@ -64,11 +67,13 @@ dates_tested past test change units a c h call =
     either_call unit true = c unit
     either_call unit false = refl
 
+-- the asks of rounds and of further ones
 dates-append : (rounds others : List RoundEvent) → dates (rounds ++ others) ≡ dates rounds ++ dates others
 dates-append [] others = refl
 dates-append (r ∷ rounds) others =
     ap (λ ds. map (λ (a : Ask). (a, r.id)) r.asks ++ ds) (dates-append rounds others) ∙ sym (append_assoc (map (λ (a : Ask). (a, r.id)) r.asks) (dates rounds) (dates others))
 
+-- the units that a round asks for belong to its call alone
 dated_of : (r : RoundEvent) (call : ℕ) (b : Bool) → (r.call == call) ≡ b → (asks : List Ask) → map dated (filter (is_of call) (map (unit_asked r) asks)) ≡ (if b then map (λ (a : Ask). (a, r.id)) asks else [])
 dated_of r call true e [] = refl
 dated_of r call false e [] = refl
@@ -79,6 +84,7 @@ dated_of r call false e (ask ∷ asks) =
     ap (λ b. map dated (if b then unit_asked r ask ∷ filter (is_of call) (map (unit_asked r) asks) else filter (is_of call) (map (unit_asked r) asks))) e
     ∙ dated_of r call false e asks
 
+-- a round asks for further units
 rounded_dates : (past : List Event) (st : State) (r : RoundEvent) → DatesTold past st.units → DatesTold (Round r ∷ past) (rounded st r).units
 unfolding rounded
 rounded_dates past st r h call =
@@ -91,6 +97,7 @@ rounded_dates past st r h call =
     by_call true = dates-append (rounds_of past call) (r ∷ []) ∙ ap (λ ds. dates (rounds_of past call) ++ ds) (append-nil (map (λ (a : Ask). (a, r.id)) r.asks))
     by_call false = sym (append-nil (dates (rounds_of past call)))
 
+-- an event that leaves all units
 dates_aside : (past : List Event) (st : State) (event : Event) → moves_units event ≡ false → DatesTold (event ∷ past) st.units → DatesTold (event ∷ past) (changed st event).units
 dates_aside past st event other h = subst (DatesTold (event ∷ past)) (sym (units_stays st event other)) h
 
@@ -126,10 +133,12 @@ among_units f P call (unit ∷ units) a = by_call (is_of call unit) a.0 (among_u
     by_call true here rest = (here refl, rest)
     by_call false here rest = rest
 
+-- what holds of each of two lists together holds of each of both
 each_split : {A B : Type 0} (f : A → B) (P : B → Type 0) (xs : List A) (ys : List B) → AllByRecursion P (map f xs ++ ys) → AllByRecursion (λ x. P (f x)) xs × AllByRecursion P ys
 each_split f P [] ys a = (tt, a)
 each_split f P (x ∷ xs) ys a = let rest = each_split f P xs ys a.1 in ((a.0, rest.0), rest.1)
 
+-- what holds of each ask of some rounds holds of the asks of each round
 by_round : (P : Ask × ℕ → Type 0) (rounds : List RoundEvent) → AllByRecursion P (dates rounds) → AllByRecursion (λ (r : RoundEvent). AllByRecursion (λ ask. P (ask, r.id)) r.asks) rounds
 by_round P [] a = tt
 by_round P (r ∷ rounds) a = let s = each_split (λ (ask : Ask). (ask, r.id)) P r.asks (dates rounds) a in (s.0, by_round P rounds s.1)
@@ -145,6 +154,7 @@ each_dated past units told call P a = by_round P (rounds_of past call) (subst (A
 pub failed_is : (config : Config) (past : List Event) (unit : Unit) → StageKept config past unit → failed config past (ask_of unit) ≡ (is_refused unit.work.state || is_lost unit.work.state)
 failed_is config past unit h = λ i. h.refused i || h.gone i
 
+-- whether a unit is closed is its stage
 pub closed_is : (config : Config) (past : List Event) (unit : Unit) → StageKept config past unit → is_closed config past (ask_of unit) ≡ not (is_open unit.work.state)
 closed_is config past unit h = (λ i. h.refused i || (h.gone i || h.ended i)) ∙ table unit.work.state
   where
@@ -155,6 +165,7 @@ closed_is config past unit h = (λ i. h.refused i || (h.gone i || h.ended i)) �
     table (Lost at) = refl
     table Ended = refl
 
+-- each of some units of a call is closed exactly where none of them is open
 closed_over : (config : Config) (past : List Event) (call : ℕ) (units : List Unit) → AllByRecursion (StageKept config past) units →
     list_all (is_closed config past) (map ask_of (filter (is_of call) units)) ≡ not (list_any (λ unit. is_of call unit && is_open_unit unit) units)
 closed_over config past call [] a = refl

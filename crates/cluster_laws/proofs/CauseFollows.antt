@@ -57,6 +57,7 @@ pub record KnownCall (config : Config) (past : List Event) (st : State) (number 
   pub granted_at_most : call.rounds ≤ granted call
   pub some_round : 1 ≤ call.request.rounds
 
+-- this is known of each call
 abbrev pub AllKnown : Config → List Event → State → Type 0
 AllKnown config past st = (number : ℕ) (call : Call) → call_of st number ≡ Some call → KnownCall config past st number call
 
@@ -204,6 +205,7 @@ module _ (config : Config) (past : List Event) (st : State) (h : IsTraced config
       some_round = subst (λ (q : Request). 1 ≤ q.rounds) (sym request) k.some_round;
     }
 
+  -- an event that changes no call
   aside : AllKnown config past st → (event : Event) → allowed st event ≡ true → moves_calls event ≡ false → ((number : ℕ) → (invokes number event ≡ false) × ((rounds_for number event ≡ false) × (rounds_of (event ∷ past) number ≡ rounds_of past number))) → AllKnown config (event ∷ past) (changed st event)
   aside all event may other none number call e =
       known_on event may number call call (none number).0 (none number).1.0 (none number).1.1 refl refl refl refl (all number call (found_aside st event other number call e))

@@ -60,6 +60,7 @@ pub record NumbersStep (config : Config) (past : List Event) (st : State) (event
   pub installed : (n : ℕ) → lives (changed st event).coord n ≡ true → installed_id st.coord n ≤ installed_id (changed st event).coord n
   pub numbered : (id : ℕ) → id ≤ st.coord.newest.id → topology_numbered config (event ∷ past) id ≡ topology_numbered config past id
 
+-- an event that moves neither members nor topologies
 numbers_aside : (config : Config) (past : List Event) (st : State) (event : Event) → moves_members event ≡ false → ((id : ℕ) → topology_numbered config (event ∷ past) id ≡ topology_numbered config past id) → NumbersStep config past st event
 numbers_aside config past st event other same =
     let e : (changed st event).coord ≡ st.coord = coord_stays st event other in
@@ -69,10 +70,12 @@ numbers_aside config past st event other same =
       numbered = λ id within. same id;
     }
 
+-- a number that is at most the newest one stays so where it is replaced by that
 raised : (b : Bool) (i newest : ℕ) → i ≤ newest → i ≤ cond b newest i
 raised true i newest h = h
 raised false i newest h = omega arith
 
+-- each event is such a step
 pub numbers_step : (config : Config) (past : List Event) (st : State) (event : Event) → IsKept config past st → ((next : Topology) → event ≡ Announce next → next.id ≡ st.coord.newest.id + 1) → NumbersStep config past st event
 unfolding joined departed announced installed joins departs announces installs
 numbers_step config past st (Join q) kept next = record {
@@ -148,6 +151,7 @@ module _ (config : Config) (past : List Event) (st : State) (event : Event) (kep
   abbrev later : Coordination
   later = (changed st event).coord
 
+  -- a node that read the segment by the topology with a number reads it so after the event
   right_then : (unit : Unit) → unit.work.asked_at ≤ st.coord.newest.id → among unit.work.node (read_owners (topology_numbered config past unit.work.asked_at) unit.work.segment) ≡ true →
       among unit.work.node (read_owners (topology_numbered config (event ∷ past) unit.work.asked_at) unit.work.segment) ≡ true
   right_then unit within right = ap (λ t. among unit.work.node (read_owners t unit.work.segment)) (step.numbered unit.work.asked_at within) ∙ right
@@ -172,6 +176,7 @@ module _ (config : Config) (past : List Event) (st : State) (event : Event) (kep
   abbrev Then : Unit → Type 0
   Then unit = Placed later unit → IdsOf config (event ∷ past) later unit
 
+  -- a unit keeps what is known of its numbers
   ids_one : (before after : Unit) → UnitStep st event before after → Both before → Then after
   ids_one before after u (h, p) q = by_stage u.stage
     where
@@ -219,6 +224,7 @@ module _ (config : Config) (past : List Event) (st : State) (event : Event) (kep
           (λ r. let y : is_running after.work.state ≡ false = ap is_running e in absurd (cc))
           (let x : closed_at after.work.state ≡ 0 = ap closed_at e in omega arith)
 
+  -- of a unit that is just asked it is known
   ids_fresh : (r : RoundEvent) (call : Call) (ask : Ask) → event ≡ Round r → RoundKnown st r call → FreshAsk st call.originator ask → Then (unit_asked r ask)
   ids_fresh r call ask e known fresh q =
       let top = at_most_newest config.segments st.coord kept.parts.topologies call.originator in

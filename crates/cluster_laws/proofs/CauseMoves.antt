@@ -35,6 +35,7 @@ pub record MovesOf (config : Config) (past : List Event) (call node : ℕ) : Typ
   pub moved : moved_between_rounds past call node ≡ true
   pub enough : rounds_in past call ≤ since_invoke (moves_at node) past call + cond {A = ℕ} (moved_since_round past call node) 0 1
 
+-- a node that departs, or had, is one that lives no longer
 departed_left : (a b c : Bool) → b ≡ not c → (a || b) ≡ not (not a && c)
 departed_left true b c e = refl
 departed_left false b c e = e
@@ -51,6 +52,7 @@ joins_other config past st q node kept may member = by_test (q == node) refl
         let there : set_of.contains st.coord.ever q ≡ true = ap (set_of.contains st.coord.ever) (eqb-true q node e) ∙ kept.told.member node ∙ member in
         absurd (cc)
 
+-- a move is counted, and something moved since the last round
 install_counts : (b m : Bool) (rounds moves : ℕ) → rounds ≤ moves + cond {A = ℕ} m 0 1 → rounds ≤ ((if b then 1 else 0) + moves) + cond {A = ℕ} (b || m) 0 1
 install_counts true m rounds moves h = le_one m h
   where
@@ -154,6 +156,7 @@ pub record Unmoved (past : List Event) (st : State) (event : Event) (call node :
   pub same : installed_id (changed st event).coord node ≡ installed_id st.coord node
   pub nobody : (n : ℕ) → event ≡ Depart n → ⊥
 
+-- an event that moves neither members nor topologies
 unmoved_aside : (past : List Event) (st : State) (event : Event) (call node : ℕ) → moves_members event ≡ false → ((n : ℕ) → event ≡ Depart n → ⊥) → moved_since_round past call node ≡ false → lives (changed st event).coord node ≡ true → Unmoved past st event call node
 unmoved_aside past st event call node other nobody m live = record {
   moved = m;

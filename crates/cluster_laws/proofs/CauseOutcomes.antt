@@ -75,6 +75,7 @@ least_none_from : (p : ℕ → Bool) (a n : ℕ) → ((s : ℕ) → a ≤ s → 
 least_none_from p a zero fails = refl
 least_none_from p a (suc n) fails = ap (λ b. if b then Some a else least_such p (range_with_len (a + 1) n)) (fails a (omega arith)) ∙ least_none_from p (a + 1) n (λ s from. fails s (omega arith))
 
+-- and so the least of a longer row
 least_shorter : (p : ℕ → Bool) (a n more : ℕ) → ((s : ℕ) → a + n ≤ s → p s ≡ false) → least_such p (range_with_len a (n + more)) ≡ least_such p (range_with_len a n)
 least_shorter p a zero more fails = ap (λ k. least_such p (range_with_len a k)) (omega arith) ∙ least_none_from p a more (λ s from. fails s (omega arith))
 least_shorter p a (suc n) more fails =
@@ -102,6 +103,7 @@ noted_least set n few within =
 -- ---- the outcome
 
 module _ (config : Config) (past : List Event) (st : State) (few : config.segments ≤ MOST_SEGMENTS) (h : IsTraced config past st) (told : DatesTold past st.units) (number : ℕ) (call : Call) (there : call_of st number ≡ Some call) (unanswered : call.outcome ≡ None) (known : KnownCall config past st number call) where
+  -- the cluster has as many segments as the settings say
   settings : st.config.segments ≡ config.segments
   settings = ap (λ (c : Config). c.segments) h.kept.told.settings
 
@@ -118,20 +120,25 @@ module _ (config : Config) (past : List Event) (st : State) (few : config.segmen
   complete_is : (s : ℕ) → is_complete st.units number s ≡ has_ended_on past number s
   complete_is s = sym (ends_told config past st h number s)
 
+  -- all segments are complete exactly where all have ended
   all_is : all_complete st number ≡ all_ended config past number
   all_is = λ i. list_all (λ s. complete_is s i) (range_with_len 0 (settings i))
 
+  -- the first incomplete segment is the least that hasn't ended
   incomplete_is : first_of (incomplete st number) ≡ least_such (λ s. not (has_ended_on past number s)) (all_segments config)
   incomplete_is =
       first_filtered (λ s. not (is_complete st.units number s)) (segments_of st)
       ∙ (λ i. least_such (λ s. not (complete_is s i)) (range_with_len 0 (settings i)))
 
+  -- no unit is open exactly where all are closed
   closed_is_told : not (has_open st number) ≡ all_closed config past number
   closed_is_told = sym (closed_told config past st number h.asks h.stages.each)
 
+  -- the rounds made are those that the events tell
   rounds_is : call.rounds ≡ rounds_in past number
   rounds_is = sym ((h.calls number).rounds ∙ ap rounds_found there)
 
+  -- a number that isn't 0 is above it
   some_rounds : (n : ℕ) → not (n == 0) ≡ nat_lt 0 n
   some_rounds n = grind (arith, nat_tests)
 
@@ -139,6 +146,7 @@ module _ (config : Config) (past : List Event) (st : State) (few : config.segmen
   abbrev made : InvokeEvent → InvokeEvent
   made invoke = record invoke { node = call.originator; request = call.request }
 
+  -- a call is whole exactly where it is satisfied
   whole_is : (invoke : InvokeEvent) → is_whole st number call ≡ is_satisfied config past number (made invoke)
   whole_is invoke = by_again (asks_again call.request.guarantee)
     where
@@ -146,6 +154,7 @@ module _ (config : Config) (past : List Event) (st : State) (few : config.segmen
       by_again true = all_is
       by_again false = λ i. (some_rounds call.rounds ∙ ap (nat_lt 0) rounds_is) i && closed_is_told i
 
+  -- it may give up exactly where the events say so
   given_is : (invoke : InvokeEvent) → (asks_again call.request.guarantee && ((call.rounds == granted call) && not (has_open st number))) ≡ has_given_up config past number (made invoke)
   given_is invoke = λ i. asks_again call.request.guarantee && ((rounds_is i == granted call) && closed_is_told i)
 
@@ -153,6 +162,7 @@ module _ (config : Config) (past : List Event) (st : State) (few : config.segmen
   abbrev named : Option Outcome → Option Cause
   named found = option_map named_cause found
 
+  -- and names the same segment and rounds
   gave_up_is : (invoke : InvokeEvent) → named (given_up st number call (first_of (incomplete st number))) ≡ (if has_given_up config past number (made invoke) then gave_up (rounds_in past number) (least_such (λ s. not (has_ended_on past number s)) (all_segments config)) else None)
   gave_up_is invoke =
       ap (λ o. named (given_up st number call o)) incomplete_is
@@ -170,6 +180,7 @@ module _ (config : Config) (past : List Event) (st : State) (few : config.segmen
       by_least None = nothing (has_given_up config past number (made invoke))
       by_least (Some s) = ap (λ b. named (if b then Some (outcomes.Again call.rounds s) else None)) (given_is invoke) ∙ by_test s (has_given_up config past number (made invoke))
 
+  -- behind the originator the causes come in the same order
   later_is : (invoke : InvokeEvent) (lost : Option ℕ) → named (outcome_by st number call lost) ≡ later_cause config past number (made invoke) lost
   later_is invoke (Some s) = refl
   later_is invoke None =
@@ -205,6 +216,7 @@ module _ (config : Config) (past : List Event) (st : State) (few : config.segmen
     pub within : suspect < config.segments
     pub left : has_ended_on past number suspect ≡ false
 
+  -- that a call gives up says this of it
   again_of : (rounds suspect : ℕ) → outcome_of st number call ≡ Some (outcomes.Again rounds suspect) → GivesUp suspect
   unfolding outcome_of
   again_of rounds suspect e = by_left (not (lives st.coord call.originator)) e
@@ -275,6 +287,7 @@ module _ (config : Config) (past : List Event) (st : State) (few : config.segmen
 
   -- ---- quiet calls, and enough rounds
 
+  -- a call that gives up has made as many rounds as it stated
   all_granted : (suspect : ℕ) → GivesUp suspect → rounds_in past number ≡ call.request.rounds
   all_granted suspect up = sym rounds_is ∙ up.rounds ∙ ap (λ b. if b then call.request.rounds else 1) up.again
 

@@ -42,6 +42,7 @@ use Rattle.cluster_laws.specs.Laws.{is_refused}
 abbrev pub FewMembers : Config → List Event → Type 0
 FewMembers config past = (n : ℕ) → was_member config past n ≡ true → n < 16
 
+-- each event that may happen leaves members few
 pub few_kept : (config : Config) (past : List Event) (st : State) (event : Event) → allowed st event ≡ true → FewMembers config past → FewMembers config (event ∷ past)
 unfolding can_join
 few_kept config past st (Join q) may few n member = elim (or_cases (q == n) (was_member config past n) member) [
@@ -61,6 +62,7 @@ pub record QuietOf (c : Coordination) (call : ℕ) (units : List Unit) : Type 0 
   pub even : (n : ℕ) → lives c n ≡ true → installed_id c n ≡ c.newest.id
   pub good : AllByRecursion (IsGood c call) units
 
+-- this is known of each call that is quiet so far
 abbrev pub AllQuiet : Config → List Event → State → Type 0
 AllQuiet config past st = (call : ℕ) → was_even config past call ≡ true → since_invoke disturbs past call ≡ 0 → QuietOf st.coord call st.units
 
@@ -69,6 +71,7 @@ record EvenStep (st : State) (event : Event) : Type 0 where
   newest : (changed st event).coord.newest.id ≡ st.coord.newest.id
   even : ((n : ℕ) → lives st.coord n ≡ true → installed_id st.coord n ≡ st.coord.newest.id) → (n : ℕ) → lives (changed st event).coord n ≡ true → installed_id (changed st event).coord n ≡ (changed st event).coord.newest.id
 
+-- an event that moves neither members nor topologies
 even_aside : (st : State) (event : Event) → moves_members event ≡ false → EvenStep st event
 even_aside st event other =
     let e = coord_stays st event other in
@@ -77,6 +80,7 @@ even_aside st event other =
       even = λ even n live. ap (λ (c : Coordination). installed_id c n) e ∙ even n (ap (λ (c : Coordination). lives c n) (sym e) ∙ live) ∙ ap (λ (c : Coordination). c.newest.id) (sym e);
     }
 
+-- a node that joins has the newest topology
 even_joins : (st : State) (q : ℕ) → EvenStep st (Join q)
 unfolding joined joins
 even_joins st q = record {
@@ -165,6 +169,7 @@ module _ (config : Config) (past : List Event) (st : State) (h : IsTraced config
       (among-filter n (is_live config past) (range_with_len 0 16) ∙ (λ i. here i && in_row 0 16 n (omega arith) member i)))
       ∙ ap (λ (t : Topology). t.id) (sym h.kept.told.newest)
 
+  -- an event that disturbs nothing and makes no call
   aside : AllQuiet config past st → (event : Event) → allowed st event ≡ true → disturbs event ≡ false → EvenStep st event → ((call : ℕ) → (was_even config (event ∷ past) call ≡ was_even config past call) × (since_invoke disturbs (event ∷ past) call ≡ 0 → since_invoke disturbs past call ≡ 0)) →
       AllQuiet config (event ∷ past) (changed st event)
   aside all event may calm step same call even none = quiet_on event may calm step call (all call (sym (same call).0 ∙ even) ((same call).1 none))

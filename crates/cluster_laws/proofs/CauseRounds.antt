@@ -47,6 +47,7 @@ unended_before past event call segment h = by_test (has_ended_on past call segme
     by_test false e = refl
     by_test true e = absurd (true≢false (sym (ended_on_more past event call segment e) ∙ h))
 
+-- rounds that failed before an event failed after it
 failed_rounds : (config : Config) (past : List Event) (event : Event) (rounds : List RoundEvent) → list_all (λ (r : RoundEvent). list_any (failed config past) r.asks) rounds ≡ true → list_all (λ (r : RoundEvent). list_any (failed config (event ∷ past)) r.asks) rounds ≡ true
 failed_rounds config past event rounds h =
     all_wider (λ (r : RoundEvent). list_any (failed config past) r.asks) (λ (r : RoundEvent). list_any (failed config (event ∷ past)) r.asks)
@@ -61,6 +62,7 @@ rounds_stay config past event call same count ahead h = record {
   ahead = ahead;
 }
 
+-- where none passes a test each fails it
 each_false : {A : Type 0} (p : A → Bool) (xs : List A) → list_any p xs ≡ false → AllByRecursion (λ x. p x ≡ false) xs
 each_false p [] a = tt
 each_false p (x ∷ xs) a = by_head (p x) refl a (each_false p xs)
@@ -94,6 +96,7 @@ module _ (config : Config) (past : List Event) (st : State) (h : IsTraced config
         (λ i. (unit.work.segment == segment) && k.ended i) ∙ ap (λ b. (b && (unit.work.segment == segment)) && is_ended unit.work.state) (sym of) ∙ e,
       )
 
+  -- and then each round failed
   pub each_round_fails : (call segment : ℕ) → RoundsOf config past call → last_round_failed config past call segment ≡ true → each_round_failed config past call ≡ true
   each_round_fails call segment rounds last = rounds_failed config past call segment rounds.earlier last
 
@@ -110,6 +113,7 @@ module _ (config : Config) (past : List Event) (st : State) (h : IsTraced config
 
   -- ---- rounds
 
+  -- a round that is made for some segments asks for each of them
   asks_segment : (originator n : ℕ) (segments : List ℕ) (segment : ℕ) → among segment segments ≡ true → list_any (λ (ask : Ask). ask.segment == segment) (asks_from st originator n segments) ≡ true
   asks_segment originator n [] segment there = absurd (cc)
   asks_segment originator n (s ∷ segments) segment there = elim (or_cases (s == segment) (among segment segments) there) [
@@ -143,6 +147,7 @@ module _ (config : Config) (past : List Event) (st : State) (h : IsTraced config
 
   -- ---- begins
 
+  -- a flag that is the same as no is no
   not_so : (b : Bool) → beq false b ≡ true → b ≡ false
   not_so true h = absurd (cc)
   not_so false h = refl
@@ -150,6 +155,7 @@ module _ (config : Config) (past : List Event) (st : State) (h : IsTraced config
   abbrev IsAhead : ℕ → Ask × ℕ → Type 0
   IsAhead number a = (not (a.0.unit == number) || (is_live config past a.0.node && nat_lt a.1 (installed_topology config past a.0.node))) ≡ true
 
+  -- a unit that is refused is behind what its node has installed, and the node is live
   ahead_one : (number : ℕ) (unit : Unit) → ((unit.work.id == number) ≡ true → can_begin_unit st false (Some unit) ≡ true) → Placed st.coord unit → IdsOf config past st.coord unit → IsAhead number (dated unit)
   ahead_one number unit test placed ids = by_test (unit.work.id == number) refl
     where
@@ -182,6 +188,7 @@ module _ (config : Config) (past : List Event) (st : State) (h : IsTraced config
 
   -- ---- all kinds
 
+  -- an event that is neither a round of the call nor a refusal
   aside : (event : Event) (call : ℕ) → RoundsOf config past call → rounds_of (event ∷ past) call ≡ rounds_of past call → rounds_in (event ∷ past) call ≡ rounds_in past call → refused_ahead config (event ∷ past) call ≡ refused_ahead config past call → RoundsOf config (event ∷ past) call
   aside event call rounds same count ahead = rounds_stay config past event call same count (ahead ∙ rounds.ahead) rounds
 

@@ -34,10 +34,12 @@ use Rattle.cluster_laws.specs.Laws.{HasCause, OutcomesAreCaused}
 
 -- ---- what is told of a call after an event that doesn't answer it
 
+-- an event that doesn't answer the call leaves its outcome
 outcome_same : (past : List Event) (call : ℕ) (event : Event) → answers call event ≡ false → outcome_in (event ∷ past) call ≡ outcome_in past call
 outcome_same past call (Answer a) other = ap (λ b. if b then Some a.outcome else outcome_in past call) other
 outcome_same past call _ other = refl
 
+-- and one that doesn't make it leaves what made it
 invoke_same : (past : List Event) (call : ℕ) (event : Event) → invokes call event ≡ false → invoke_of (event ∷ past) call ≡ invoke_of past call
 invoke_same past call (Invoke i) other = ap (λ b. if b then Some i else invoke_of past call) other
 invoke_same past call _ other = refl
@@ -150,6 +152,7 @@ module _ (config : Config) (few : config.segments ≤ MOST_SEGMENTS) (past : Lis
       by_none (Some call) e = absurd (cc)
   unmade _ call may t = absurd (cc)
 
+  -- an event that answers a call gives it its cause
   answered_by : (event : Event) (call : ℕ) → allowed st event ≡ true → answers call event ≡ true → HasCause config (event ∷ past) call
   answered_by (Answer a) call may t = subst (HasCause config (Answer a ∷ past)) (eqb-true a.call call t) (answered_cause a may)
   answered_by _ call may t = absurd (cc)
@@ -185,6 +188,7 @@ few_segments config good =
     let b = and_parts (is_up_to MOST_SEGMENTS config.segments) _ a.1 in
     leb-true config.segments MOST_SEGMENTS (and_parts (nat_le 1 config.segments) (nat_le config.segments MOST_SEGMENTS) b.0).1
 
+-- and of nodes
 few_nodes : (config : Config) → is_config config ≡ true → config.nodes ≤ 16
 few_nodes config good =
     let a = and_parts (is_up_to MOST_NODES config.nodes) _ good in
@@ -207,6 +211,7 @@ reasoned_start config good = record {
   };
 }
 
+-- and so does a run
 reasoned_run : (config : Config) → config.segments ≤ MOST_SEGMENTS → (past : List Event) (st : State) (events : List Event) → runs st events ≡ true → IsReasoned config past st → IsReasoned config (reverse_aux events past) (state st events)
 reasoned_run config few past st [] is h = h
 reasoned_run config few past st (event ∷ events) is h =

@@ -78,6 +78,7 @@ asked_opens (Refused at) h = absurd (cc)
 asked_opens (Lost at) h = absurd (cc)
 asked_opens Ended h = absurd (cc)
 
+-- what the test of a round says of a call that goes on
 known_by : (st : State) (r : RoundEvent) (call : Call) → GoesOn st (call_of st r.call) call → is_next_round st r (Some call) ≡ true → RoundKnown st r call
 known_by st r call on next =
     let a : (is_due st r.call call ≡ true) × (((r.id == installed_id st.coord call.originator) && same_asks r.asks (asks_of st r.call call)) ≡ true) = and_parts (is_due st r.call call) _ next in
@@ -100,6 +101,7 @@ known_by st r call on next =
       asks = same_asks-exact r.asks (asks_of st r.call call) b.1;
     }
 
+-- what is known where a round may be made
 pub round_known : (st : State) (r : RoundEvent) → can_round st r ≡ true → (call : Call) × RoundKnown st r call
 unfolding can_round
 round_known st r h =
@@ -125,6 +127,7 @@ each_kept p (x ∷ xs) ys sub = by_test (p x) (each_kept p xs ys (λ s there. su
     by_test true rest = (sub x (or_left (x == x) (among x xs) (eq-eqb x x refl)), rest)
     by_test false rest = rest
 
+-- what is known of asks for segments that have live readers
 fresh_from : (st : State) (originator n : ℕ) (segments : List ℕ) → length st.units < n → AllByRecursion (λ s. among s (segments_of st) ≡ true) segments → list_all (has_reader st originator) segments ≡ true → AllByRecursion (FreshAsk st originator) (asks_from st originator n segments)
 fresh_from st originator n [] more inside all = tt
 fresh_from st originator n (segment ∷ segments) more inside all =
@@ -133,6 +136,7 @@ fresh_from st originator n (segment ∷ segments) more inside all =
       fresh_from st originator (n + 1) segments (omega arith) inside.1 p.1,
     )
 
+-- what is known of the asks of a round
 pub fresh_asks : (st : State) (r : RoundEvent) (call : Call) → RoundKnown st r call → AllByRecursion (FreshAsk st call.originator) r.asks
 fresh_asks st r call known =
     subst (AllByRecursion (FreshAsk st call.originator)) (sym known.asks) (fresh_from st call.originator (length st.units + 1) (incomplete st r.call) (omega arith) (each_kept (λ segment. not (is_complete st.units r.call segment)) (segments_of st) (segments_of st) (λ s there. there)) known.readers)
@@ -140,9 +144,11 @@ fresh_asks st r call known =
 -- ---- each unit after an event
 
 module _ (st : State) (event : Event) (P Q : Unit → Type 0) (step : (before after : Unit) → UnitStep st event before after → P before → Q after) where
+  -- a unit that stays as it is
   still : (unit : Unit) → P unit → Q unit
   still unit p = step unit unit (record { id = refl; call = refl; segment = refl; node = refl; asked_at = refl; stage = Stays refl }) p
 
+  -- an event that leaves all units
   aside : moves_units event ≡ false → AllByRecursion P st.units → AllByRecursion Q (changed st event).units
   aside other all = subst (AllByRecursion Q) (sym (units_stays st event other)) (each_imply P Q still st.units all)
 
@@ -158,6 +164,7 @@ module _ (st : State) (event : Event) (P Q : Unit → Type 0) (step : (before af
           by_test true t = step unit (change unit) (s t) p
           by_test false t = still unit p
 
+-- a begin or a refusal, an end, a departure and an installation are such steps of their units
 begin_step : (st : State) (number : ℕ) (runs : Bool) (unit : Unit) → ((unit.work.id == number) ≡ true → can_begin_unit st runs (Some unit) ≡ true) → (unit.work.id == number) ≡ true → UnitStep st (Begin number runs) unit (with_begin st runs unit)
 begin_step st number runs unit test here =
     let a : (goes_on st (call_of st unit.work.call) ≡ true) × _ = and_parts (goes_on st (call_of st unit.work.call)) _ (test here) in
@@ -178,17 +185,20 @@ begin_step st number runs unit test here =
     same_flag true false h = absurd (cc)
     same_flag false true h = absurd (cc)
 
+-- the end of a unit
 done_step : (st : State) (number : ℕ) (unit : Unit) → ((unit.work.id == number) ≡ true → can_end_unit st (Some unit) ≡ true) → (unit.work.id == number) ≡ true → UnitStep st (Done number) unit (record unit { work = ended unit.work })
 done_step st number unit test here =
     let a : (goes_on st (call_of st unit.work.call) ≡ true) × _ = and_parts (goes_on st (call_of st unit.work.call)) _ (test here) in
     let b : (is_running unit.work.state ≡ true) × _ = and_parts (is_running unit.work.state) _ a.1 in
     record { id = refl; call = refl; segment = refl; node = refl; asked_at = refl; stage = Ends (ap (λ n. Done n) (sym (eqb-true unit.work.id number here))) b.0 refl }
 
+-- the departure of its node
 depart_step : (st : State) (node : ℕ) (unit : Unit) → (is_open_unit unit && (unit.work.node == node)) ≡ true → UnitStep st (Depart node) unit (with_loss None unit)
 depart_step st node unit t =
     let a = and_parts (is_open_unit unit) (unit.work.node == node) t in
     record { id = refl; call = refl; segment = refl; node = refl; asked_at = refl; stage = Departs (ap (λ n. Depart n) (sym (eqb-true unit.work.node node a.1))) a.0 refl }
 
+-- the installation of a topology by which its node doesn't read the segment
 install_step : (st : State) (node id : ℕ) → can_install st node id ≡ true → (unit : Unit) → ceases st node unit ≡ true → UnitStep st (Install node id) unit (with_loss (Some id) unit)
 unfolding can_install
 install_step st node id may unit t =

@@ -24,6 +24,7 @@ pub all_true : {A : Type 0} (p : A → Bool) (xs : List A) → AllByRecursion (�
 all_true p [] a = refl
 all_true p (x ∷ xs) a = and_from (p x) (list_all p xs) a.0 (all_true p xs a.1)
 
+-- and the other way round
 pub each_true : {A : Type 0} (p : A → Bool) (xs : List A) → list_all p xs ≡ true → AllByRecursion (λ x. p x ≡ true) xs
 each_true p [] a = tt
 each_true p (x ∷ xs) a = let h = and_parts (p x) (list_all p xs) a in (h.0, each_true p xs h.1)
@@ -33,6 +34,7 @@ pub all_wider : {A : Type 0} (p q : A → Bool) → ((x : A) → p x ≡ true �
 all_wider p q f [] a = refl
 all_wider p q f (x ∷ xs) a = let h = and_parts (p x) (list_all p xs) a in and_from (q x) (list_all q xs) (f x h.0) (all_wider p q f xs h.1)
 
+-- and of some of a list
 pub any_wider : {A : Type 0} (p q : A → Bool) → ((x : A) → p x ≡ true → q x ≡ true) → (xs : List A) → list_any p xs ≡ true → list_any q xs ≡ true
 any_wider p q f [] a = absurd (cc)
 any_wider p q f (x ∷ xs) a = elim (or_cases (p x) (list_any p xs) a) [
@@ -53,6 +55,7 @@ pub none_true : {A : Type 0} (p : A → Bool) (xs : List A) → AllByRecursion (
 none_true p [] a = refl
 none_true p (x ∷ xs) a = ap (λ b. b || list_any p xs) a.0 ∙ none_true p xs a.1
 
+-- some of a list are some of a longer one
 pub any_left : {A : Type 0} (p : A → Bool) (xs ys : List A) → list_any p xs ≡ true → list_any p (xs ++ ys) ≡ true
 any_left p [] ys a = absurd (cc)
 any_left p (x ∷ xs) ys a = elim (or_cases (p x) (list_any p xs) a) [
@@ -88,11 +91,13 @@ but_last [] = []
 but_last (r ∷ []) = []
 but_last (r ∷ other ∷ rounds) = r ∷ but_last (other ∷ rounds)
 
+-- all but the last, where one more comes
 pub but_last-push : (rounds : List RoundEvent) (r : RoundEvent) → but_last (rounds ++ r ∷ []) ≡ rounds
 but_last-push [] r = refl
 but_last-push (x ∷ []) r = refl
 but_last-push (x ∷ y ∷ rounds) r = ap (λ rs. x ∷ rs) (but_last-push (y ∷ rounds) r)
 
+-- and the asks of the last
 pub last_asks-push : (rounds : List RoundEvent) (r : RoundEvent) → last_asks (rounds ++ r ∷ []) ≡ r.asks
 last_asks-push [] r = refl
 last_asks-push (x ∷ []) r = refl
@@ -129,6 +134,7 @@ count_rounds (_ ∷ past) call = count_rounds past call
 
 -- ---- what is told stays told
 
+-- a unit that failed has failed
 pub failed_more : (config : Config) (past : List Event) (event : Event) (ask : Ask) → failed config past ask ≡ true → failed config (event ∷ past) ask ≡ true
 failed_more config past event ask h = elim (or_cases (was_refused past ask.unit) (is_gone config past ask) h) [
   | inl refused ↦ or_left (was_refused (event ∷ past) ask.unit) (is_gone config (event ∷ past) ask) (refused_more event refused)
@@ -144,10 +150,12 @@ failed_more config past event ask h = elim (or_cases (was_refused past ask.unit)
     gone_more (Install node id) h = or_left (is_gone config past ask) _ h
     gone_more _ h = h
 
+-- a unit that has ended has ended
 pub ended_more : (past : List Event) (event : Event) (unit : ℕ) → has_ended past unit ≡ true → has_ended (event ∷ past) unit ≡ true
 ended_more past (Done other) unit h = or_right (other == unit) (has_ended past unit) h
 ended_more past _ unit h = h
 
+-- a segment that has ended for a call has ended for it
 pub ended_on_more : (past : List Event) (event : Event) (call segment : ℕ) → has_ended_on past call segment ≡ true → has_ended_on (event ∷ past) call segment ≡ true
 ended_on_more past event call segment h =
     asks_more event
@@ -240,11 +248,13 @@ undisturbed event past call X h rest = by_test (invokes call event) h
     by_test true h = refl
     by_test false h = rest (omega arith)
 
+-- so the originator didn't depart
 pub quiet_nobody_left : (past : List Event) (call node : ℕ) → since_invoke disturbs past call ≡ 0 → left_since past call node ≡ false
 quiet_nobody_left [] call node h = refl
 quiet_nobody_left (Depart other ∷ past) call node h = absurd (omega arith)
 quiet_nobody_left (event ∷ past) call node h = undisturbed event past call (left_since past call node) h (quiet_nobody_left past call node)
 
+-- and no segment was lost
 pub quiet_nothing_lost : (config : Config) (past : List Event) (call segment : ℕ) → since_invoke disturbs past call ≡ 0 → was_lost config past call segment ≡ false
 quiet_nothing_lost config [] call segment h = refl
 quiet_nothing_lost config (Depart other ∷ past) call segment h = absurd (omega arith)

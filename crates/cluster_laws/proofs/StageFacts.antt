@@ -41,6 +41,7 @@ pub record UnitsAlike (config : Config) (past later : List Event) : Type 0 where
   pub gone : is_gone config later ≡ is_gone config past
   pub ended : has_ended later ≡ has_ended past
 
+-- so they tell the same of a stage
 pub alike_stage : (config : Config) (past later : List Event) → UnitsAlike config past later → (ask : Ask) (stage : UnitState) → StageOf config past ask stage → StageOf config later ask stage
 alike_stage config past later same ask stage h = record {
   asked = ap (λ f. f ask.unit) same.asked ∙ h.asked;
@@ -50,6 +51,7 @@ alike_stage config past later same ask stage h = record {
   ended = ap (λ f. f ask.unit) same.ended ∙ h.ended;
 }
 
+-- and of a number that is no unit's yet
 pub alike_unborn : (config : Config) (past later : List Event) → UnitsAlike config past later → (ask : Ask) → Unborn config past ask → Unborn config later ask
 alike_unborn config past later same ask h = record {
   asked = ap (λ f. f ask.unit) same.asked ∙ h.asked;
@@ -72,6 +74,7 @@ begin_other config past number runs ask stage other h = record {
   ended = h.ended;
 }
 
+-- and of a number that is no unit's yet
 pub begin_unborn : (config : Config) (past : List Event) (number : ℕ) (runs : Bool) (ask : Ask) → (number == ask.unit) ≡ false → Unborn config past ask → Unborn config (Begin number runs ∷ past) ask
 begin_unborn config past number runs ask other h = record {
   asked = h.asked;
@@ -115,6 +118,7 @@ done_other config past number ask stage other h = record {
   ended = ap (λ b. b || has_ended past ask.unit) other ∙ h.ended;
 }
 
+-- and for a number that is no unit's yet
 pub done_unborn : (config : Config) (past : List Event) (number : ℕ) (ask : Ask) → (number == ask.unit) ≡ false → Unborn config past ask → Unborn config (Done number ∷ past) ask
 done_unborn config past number ask other h = record {
   asked = h.asked;
@@ -148,6 +152,7 @@ open_unrefused (Refused at) o = absurd (cc)
 open_unrefused (Lost at) o = refl
 open_unrefused Ended o = refl
 
+-- nor has it ended
 open_unended : (stage : UnitState) → is_open stage ≡ true → is_ended stage ≡ false
 open_unended Asked o = refl
 open_unended Running o = refl
@@ -166,6 +171,7 @@ lost_now config past later ask stage at asked refused ended o gone h = record {
   ended = ap (λ f. f ask.unit) ended ∙ h.ended ∙ open_unended stage o;
 }
 
+-- and one that stays as it was
 stays_so : (config : Config) (past later : List Event) (ask : Ask) (stage : UnitState) → was_asked later ≡ was_asked past → was_refused later ≡ was_refused past → has_begun later ≡ has_begun past → has_ended later ≡ has_ended past →
     is_gone config later ask ≡ is_lost stage → StageOf config past ask stage → StageOf config later ask stage
 stays_so config past later ask stage asked refused begun ended gone h = record {
@@ -176,6 +182,7 @@ stays_so config past later ask stage asked refused begun ended gone h = record {
   ended = ap (λ f. f ask.unit) ended ∙ h.ended;
 }
 
+-- which stages a departure leaves lost
 departs_from : (stage : UnitState) (b : Bool) → (is_lost stage || (b && (true && (not (is_refused stage) && not (is_ended stage))))) ≡ is_lost (cond (is_open stage && b) (Lost None) stage)
 departs_from Asked true = refl
 departs_from Asked false = refl
@@ -194,14 +201,17 @@ departed_gone : (config : Config) (past : List Event) (node : ℕ) (ask : Ask) (
 departed_gone config past node ask stage h =
     (λ i. h.gone i || (nat_eq_equiv.symm node ask.node i && (h.asked i && (not (h.refused i) && not (h.ended i))))) ∙ departs_from stage (ask.node == node)
 
+-- an open unit at the node is lost
 pub departs_lost : (config : Config) (past : List Event) (node : ℕ) (ask : Ask) (stage : UnitState) → (is_open stage && (ask.node == node)) ≡ true → is_open stage ≡ true → StageOf config past ask stage → StageOf config (Depart node ∷ past) ask (Lost None)
 departs_lost config past node ask stage test o h =
     lost_now config past (Depart node ∷ past) ask stage None refl refl refl o (departed_gone config past node ask stage h ∙ ap (λ b. is_lost (cond b (Lost None) stage)) test) h
 
+-- another unit stays as it was
 pub departs_stays : (config : Config) (past : List Event) (node : ℕ) (ask : Ask) (stage : UnitState) → (is_open stage && (ask.node == node)) ≡ false → StageOf config past ask stage → StageOf config (Depart node ∷ past) ask stage
 departs_stays config past node ask stage test h =
     stays_so config past (Depart node ∷ past) ask stage refl refl refl refl (departed_gone config past node ask stage h ∙ ap (λ b. is_lost (cond b (Lost None) stage)) test) h
 
+-- which stages an installation leaves lost
 installs_at : (id : ℕ) (stage : UnitState) (b c : Bool) → is_lost stage ≡ false → (is_lost stage || (b && ((reads_in stage && not (is_ended stage)) && c))) ≡ is_lost (cond (is_running stage && (b && c)) (Lost (Some id)) stage)
 installs_at id Asked true c l = refl
 installs_at id Asked false c l = refl
@@ -238,11 +248,13 @@ installed_gone config past newest node id ask stage told h = by_lost (is_lost st
         (λ i. h.gone i || (nat_eq_equiv.symm node ask.node i && ((h.begun l i && not (h.ended i)) && reader (sym told i))))
         ∙ installs_at id stage (ask.node == node) (reader newest) l
 
+-- a unit for which the node ceases to read is lost
 pub installs_lost : (config : Config) (past : List Event) (newest : Topology) (node id : ℕ) (ask : Ask) (stage : UnitState) → newest ≡ newest_topology config past →
     (is_running stage && ((ask.node == node) && not (among node (read_owners newest ask.segment)))) ≡ true → is_open stage ≡ true → StageOf config past ask stage → StageOf config (Install node id ∷ past) ask (Lost (Some id))
 installs_lost config past newest node id ask stage told test o h =
     lost_now config past (Install node id ∷ past) ask stage (Some id) refl refl refl o (installed_gone config past newest node id ask stage told h ∙ ap (λ b. is_lost (cond b (Lost (Some id)) stage)) test) h
 
+-- another unit stays as it was
 pub installs_stays : (config : Config) (past : List Event) (newest : Topology) (node id : ℕ) (ask : Ask) (stage : UnitState) → newest ≡ newest_topology config past →
     (is_running stage && ((ask.node == node) && not (among node (read_owners newest ask.segment)))) ≡ false → StageOf config past ask stage → StageOf config (Install node id ∷ past) ask stage
 installs_stays config past newest node id ask stage told test h =
@@ -262,6 +274,7 @@ departs_unborn config past node ask h = record {
     and_never true = refl
     and_never false = refl
 
+-- and where it installs a topology
 pub installs_unborn : (config : Config) (past : List Event) (node id : ℕ) (ask : Ask) → Unborn config past ask → Unborn config (Install node id ∷ past) ask
 installs_unborn config past node id ask h = record {
   asked = h.asked;

@@ -1,4 +1,4 @@
--- The segments that a call has noted as lost are those that the events tell.
+-- The segments that a call hasn'ted as lost are those that the events tell.
 use Rattle.std.proofs.Common.{◌≡◌, ℕ, ◌+◌, ◌≤◌, ◌<◌, ◌==◌, Bool, true, false, not, ◌&&◌, ◌||◌, ◌⊎◌, inl, inr, cond, if◌then◌else◌, List, [], ◌∷◌, map, length, None, Some, is_none, refl, sym, ap, ◌∙◌, arith, subst}
 use Rattle.std.proofs.lemmas.Bool.{and_from, and_parts, cases_lt, or_cases, true≢false}
 use Rattle.std.proofs.lemmas.List.{get_or_past}
@@ -40,6 +40,7 @@ pub record NotesOf (config : Config) (past : List Event) (number : ℕ) (call : 
   pub none : asks_again call.request.guarantee ≡ false → (segment : ℕ) → set_of.contains call.lost segment ≡ false
   pub within : (segment : ℕ) → set_of.contains call.lost segment ≡ true → segment < config.segments
 
+-- this is known of each call
 abbrev pub AllNotes : Config → List Event → State → Type 0
 AllNotes config past st = (number : ℕ) (call : Call) → call_of st number ≡ Some call → NotesOf config past number call
 
@@ -73,6 +74,7 @@ loses_none : (c : Coordination) (node s : ℕ) → IsOwned c.newest → segment_
 unfolding loses
 loses_none c node s owned past = ap (λ nodes. some_live c nodes && not (list_any (λ other. lives c other && not (other == node)) nodes)) (none_past c.newest s owned past)
 
+-- so a departure loses only segments of the cluster
 loses_within : (c : Coordination) (node s : ℕ) → IsOwned c.newest → (loses c node s && among s (range_with_len 0 (segment_count c))) ≡ loses c node s
 loses_within c node s owned = by_place (cases_lt s (segment_count c))
   where
@@ -86,6 +88,7 @@ loses_within c node s owned = by_place (cases_lt s (segment_count c))
         let lost : loses c node s ≡ false = loses_none c node s owned past in
         ap (λ b. b && among s (range_with_len 0 (segment_count c))) lost ∙ sym lost
 
+-- which segments are noted after some more
 contains_noted : (segments : List ℕ) (noted : set_of.FinSet nat_cmp) (s : ℕ) → set_of.contains (all_noted segments noted) s ≡ (among s segments || set_of.contains noted s)
 contains_noted [] noted s = refl
 contains_noted (segment ∷ segments) noted s =
@@ -159,7 +162,7 @@ module _ (config : Config) (past : List Event) (st : State) (kept : IsKept confi
     within = λ s there. h.within s (ap (λ l. set_of.contains l s) (sym lost) ∙ there);
   }
 
-  -- a call that was just made has noted nothing
+  -- a call that was just made hasn'ted nothing
   notes_fresh : (i : InvokeEvent) (number : ℕ) → (i.call == number) ≡ true → NotesOf config (Invoke i ∷ past) number (fresh_call i)
   notes_fresh i number here = record {
     told = λ u asks s. set_of.contains-empty nat_cmp s ∙ sym (ap (λ b. if b then false else was_lost config past number s) here);
@@ -167,6 +170,7 @@ module _ (config : Config) (past : List Event) (st : State) (kept : IsKept confi
     within = λ s there. absurd (true≢false (sym there ∙ set_of.contains-empty nat_cmp s));
   }
 
+  -- an event that changes no call
   aside : AllNotes config past st → (event : Event) → moves_calls event ≡ false → ((number s : ℕ) → was_lost config (event ∷ past) number s ≡ was_lost config past number s) → AllNotes config (event ∷ past) (changed st event)
   aside h event other same number call e = notes_carried (event ∷ past) number call call (same number) (λ u. u) refl refl (h number call (found_aside st event other number call e))
 

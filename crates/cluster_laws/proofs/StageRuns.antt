@@ -67,6 +67,7 @@ traced_start config good = record {
   notes = λ number call e. let none : call_of (start config) number ≡ None = map_of.get-empty {X = Call} nat_cmp number in absurd (cc);
 }
 
+-- and so does a run
 traced_run : (config : Config) (past : List Event) (st : State) (events : List Event) → runs st events ≡ true → IsTraced config past st → IsTraced config (reverse_aux events past) (state st events)
 traced_run config past st [] is h = h
 traced_run config past st (event ∷ events) is h =

@@ -119,6 +119,7 @@ still_asked config past r unit h = record {
   ended = h.ended;
 }
 
+-- a unit that is asked now
 now_asked : (config : Config) (past : List Event) (r : RoundEvent) (ask : Ask) → list_any (λ (a : Ask). a.unit == ask.unit) r.asks ≡ true → Unborn config past ask → StageKept config (Round r ∷ past) (unit_asked r ask)
 now_asked config past r ask there h = record {
   asked = or_left (list_any (λ (a : Ask). a.unit == ask.unit) r.asks) (was_asked past ask.unit) there;
@@ -132,6 +133,7 @@ now_asked config past r ask there h = record {
 abbrev pub Within : ℕ → ℕ → List Ask → Type 0
 Within low high asks = AllByRecursion (λ (a : Ask). (low ≤ a.unit) × (a.unit < high)) asks
 
+-- the asks of a round are numbered on from the units that are there
 pub round_within : (st : State) (r : RoundEvent) → can_round st r ≡ true → Within (length st.units + 1) ((length st.units + 1) + length r.asks) r.asks
 round_within st r may =
     let found : (call : Call) × CanRound st r call = round_facts st r may in
@@ -179,6 +181,7 @@ reads_on config past event number change units within same keeps k =
     (λ unit here h. keeps unit (alike_stage config past (event ∷ past) same (ask_of unit) unit.work.state h)) units)
     k
 
+-- the unit that begins, or is refused
 begins_this : (config : Config) (past : List Event) (st : State) (number : ℕ) (runs : Bool) (unit : Unit) → ((unit.work.id == number) ≡ true → can_begin_unit st runs (Some unit) ≡ true) → (unit.work.id == number) ≡ true → StageKept config past unit →
     StageKept config (Begin number runs ∷ past) (with_begin st runs unit)
 begins_this config past st number runs unit test here h =
@@ -186,6 +189,7 @@ begins_this config past st number runs unit test here h =
     let b : (is_asked unit.work.state ≡ true) × _ = and_parts (is_asked unit.work.state) _ a.1 in
     begin_this config past number (installed_id st.coord unit.work.node) runs (ask_of unit) unit.work.state b.0 (let e = here in grind (arith, nat_tests)) h
 
+-- the unit that ends
 ends_this : (config : Config) (past : List Event) (st : State) (number : ℕ) (unit : Unit) → ((unit.work.id == number) ≡ true → can_end_unit st (Some unit) ≡ true) → (unit.work.id == number) ≡ true → StageKept config past unit →
     StageKept config (Done number ∷ past) (record unit { work = ended unit.work })
 ends_this config past st number unit test here h =

@@ -38,10 +38,12 @@ use Rattle.cluster_laws.specs.Laws.{is_settled}
 
 -- ---- lists
 
+-- some of a list are some of a longer one
 any_right : {A : Type 0} (p : A → Bool) (xs ys : List A) → list_any p ys ≡ true → list_any p (xs ++ ys) ≡ true
 any_right p [] ys h = h
 any_right p (x ∷ xs) ys h = or_right (p x) (list_any p (xs ++ ys)) (any_right p xs ys h)
 
+-- some of a list that is changed
 any_mapped : {A B : Type 0} (f : A → B) (p : B → Bool) (xs : List A) → list_any (λ x. p (f x)) xs ≡ true → list_any p (map f xs) ≡ true
 any_mapped f p [] h = absurd (cc)
 any_mapped f p (x ∷ xs) h = elim (or_cases (p (f x)) (list_any (λ y. p (f y)) xs) h) [
@@ -66,6 +68,7 @@ first_live_there c (n ∷ nodes) h = by_head (lives c n) h (first_live_there c n
     by_head true h rest = refl
     by_head false h rest = rest h
 
+-- a test whose negation fails passes
 not_true : (b : Bool) → not b ≡ false → b ≡ true
 not_true true e = refl
 not_true false e = absurd (cc)
@@ -85,6 +88,7 @@ module _ (segments : ℕ) (st : State) (kept : KeepsTopologies segments st.coord
       (and_from (not (installed_id st.coord n == st.coord.newest.id)) _ (ap not behind) (eq-eqb st.coord.newest.id st.coord.newest.id refl))))
       (among-live st.coord n ∙ live)))
 
+  -- where not all live nodes have the newest topology there is an installation
   some_behind : all_installed st.coord ≡ false → is_some (advance_event st) ≡ true
   some_behind left =
       let one = some_fails (λ node. installed_id st.coord node == st.coord.newest.id) (live_nodes st.coord) left in
@@ -110,6 +114,7 @@ module _ (segments : ℕ) (st : State) (kept : KeepsTopologies segments st.coord
       (any_mapped (λ segment. (n, segment)) (λ (d : ℕ × ℕ). is_some (f d.0 d.1)) (segments_of st) (any_of (λ segment. is_some (f n segment)) (segments_of st) s h within))
       (among-live st.coord n ∙ live)))
 
+  -- a landing at a receiver
   land_there : (n s : ℕ) → lives st.coord n ≡ true → among s (segments_of st) ≡ true → is_some (land_event st n s) ≡ true → is_some (advance_event st) ≡ true
   unfolding advance_event
   land_there n s live within h =
@@ -117,6 +122,7 @@ module _ (segments : ℕ) (st : State) (kept : KeepsTopologies segments st.coord
       (other_there (cancel_event st) _
       (first_there (first_some (λ d. land_event st d.0 d.1) (destinations st)) _ (at_destination (land_event st) n s live within h)))
 
+  -- a copy to a receiver
   copy_there : (n s : ℕ) → lives st.coord n ≡ true → among s (segments_of st) ≡ true → is_some (copy_event st n s) ≡ true → is_some (advance_event st) ≡ true
   unfolding advance_event
   copy_there n s live within h =
@@ -125,6 +131,7 @@ module _ (segments : ℕ) (st : State) (kept : KeepsTopologies segments st.coord
       (other_there (first_some (λ d. land_event st d.0 d.1) (destinations st)) _
       (first_there (first_some (λ d. copy_event st d.0 d.1) (destinations st)) (announce_event st) (at_destination (copy_event st) n s live within h))))
 
+  -- the next chunk may be sent
   copies_on : all_installed st.coord ≡ true → (n s node : ℕ) → receives st.coord n s ≡ true → may_send (transfer_of st n s) ≡ true → provider st n s ≡ Some node → is_some (copy_event st n s) ≡ true
   unfolding can_copy
   copies_on all n s node receiving may provides =
@@ -138,15 +145,18 @@ module _ (segments : ℕ) (st : State) (kept : KeepsTopologies segments st.coord
       chunk_itself : (chunk : Portion StampedEntry) → same_chunk chunk chunk ≡ true
       chunk_itself chunk = and_from (pointwise same_stamped chunk.entries chunk.entries) (beq chunk.last chunk.last) (pointwise_itself same_stamped same_stamped_itself chunk.entries) (flag_itself chunk.last)
 
+  -- a receiver lives
   receiver_lives : (n s : ℕ) → receives st.coord n s ≡ true → lives st.coord n ≡ true
   receiver_lives n s receiving = (and_parts (lives st.coord n) _ (and_parts (same_phase st.coord.newest.phase ReadOld) _ receiving).1).0
 
+  -- what flies to a receiver may land
   lands_at : (n s : ℕ) → lives st.coord n ≡ true → among s (segments_of st) ≡ true → flies (transfer_of st n s) ≡ true → is_some (advance_event st) ≡ true
   unfolding can_land
   lands_at n s live within h = land_there n s live within (allowed_there st (events.Land n s) h)
 
   -- ---- where all live nodes have the newest topology
 
+  -- the next topology where all live nodes have the newest one
   follows_by : (all : all_installed st.coord ≡ true) (b : Bool) → needs_repair st.coord ≡ b → next_topology st ≡ (if b then Some (repaired st.coord.newest (live_nodes st.coord)) else unrepaired (all_copied st) st.coord)
   unfolding following
   follows_by all b e =

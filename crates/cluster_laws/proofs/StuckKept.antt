@@ -71,6 +71,7 @@ newest_stays st (Take w) other = ap (λ c. c.newest) (coord_stays st (Take w) re
 newest_stays st (Done w) other = ap (λ c. c.newest) (coord_stays st (Done w) refl)
 newest_stays st (Answer w) other = ap (λ c. c.newest) (coord_stays st (Answer w) refl)
 
+-- each event keeps owners and numbers
 newest_kept : (config : Config) (past : List Event) (st : State) (event : Event) → allowed st event ≡ true → IsKept config past st → CurrentOwned st.coord.newest → st.coord.newest.id ≤ 1 + length past →
     CurrentOwned (changed st event).coord.newest × ((changed st event).coord.newest.id ≤ 1 + length (event ∷ past))
 unfolding announced announces
@@ -90,6 +91,7 @@ read_same : (change : Unit → Unit) → ((unit : Unit) → (change unit).work.e
 read_same change same [] = refl
 read_same change same (unit ∷ units) = let e = ap length (same unit) in let r = read_same change same units in omega arith
 
+-- and such a change of those that pass a test
 read_tested : (test : Unit → Bool) (change : Unit → Unit) → ((unit : Unit) → (change unit).work.entries ≡ unit.work.entries) → (units : List Unit) → read_by (map (λ unit. cond (test unit) (change unit) unit) units) ≡ read_by units
 read_tested test change same units = read_same (λ unit. cond (test unit) (change unit) unit) (λ unit. by_test unit (test unit)) units
   where
@@ -97,10 +99,12 @@ read_tested test change same units = read_same (λ unit. cond (test unit) (chang
     by_test unit true = same unit
     by_test unit false = refl
 
+-- what two lists of units have read
 read-append : (xs ys : List Unit) → read_by (xs ++ ys) ≡ read_by xs + read_by ys
 read-append [] ys = omega arith
 read-append (x ∷ xs) ys = let r = read-append xs ys in omega arith
 
+-- units that are just asked have read nothing
 read_none : (r : RoundEvent) (asks : List Ask) → read_by (map (unit_asked r) asks) ≡ 0
 read_none r [] = refl
 read_none r (ask ∷ asks) = let n = read_none r asks in omega arith
@@ -126,6 +130,7 @@ read_more number more n change adds (unit ∷ units) a = by_head (unit.work.id =
         let x = adds unit in omega arith
     by_head false t rest = omega arith
 
+-- each event adds at most its entries to what was read
 read_kept : (st : State) (event : Event) (past : List Event) → NumberedFrom 1 st.units → read_by st.units ≤ total_weight past → read_by (changed st event).units ≤ total_weight (event ∷ past)
 unfolding departed installed rounded begun_unit scanned fetched taken_by ended_unit
 read_kept st (Depart node) past n h = let r = read_tested (λ unit. is_open_unit unit && (unit.work.node == node)) (with_loss None) (λ unit. refl) st.units in omega arith
@@ -150,15 +155,19 @@ read_kept st (Answer w) past n h = let e = ap read_by (units_stays st (Answer w)
 
 -- ---- batches
 
+-- the batches of all calls are in their limit
 abbrev InLimit : State → Type 0
 InLimit st = (number : ℕ) (call : Call) → call_of st number ≡ Some call → call.request.batch ≤ MOST_BATCH
 
+-- an event that changes no call
 batch_aside : (st : State) (event : Event) → moves_calls event ≡ false → InLimit st → InLimit (changed st event)
 batch_aside st event other h number call e = h number call (found_aside st event other number call e)
 
+-- a call that asks for the same
 like : (before after : Call) → after.request ≡ before.request → before.request.batch ≤ MOST_BATCH → after.request.batch ≤ MOST_BATCH
 like before after same h = subst (λ (q : Request). q.batch ≤ MOST_BATCH) (sym same) h
 
+-- each event that may happen keeps batches in their limit
 batches_kept : (st : State) (event : Event) → allowed st event ≡ true → InLimit st → InLimit (changed st event)
 unfolding can_invoke
 batches_kept st (Depart node) may h number call e =

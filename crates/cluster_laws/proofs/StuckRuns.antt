@@ -83,6 +83,7 @@ all_filtered p q (x ∷ xs) a = by_test (q x) (all_filtered p q xs a.1)
     by_test true rest = and_from (p x) (list_all p (filter q xs)) a.0 rest
     by_test false rest = rest
 
+-- some of a part pass where some of the whole are of the part and pass
 any_filtered : {A : Type 0} (q p : A → Bool) (xs : List A) → list_any (λ x. q x && p x) xs ≡ true → list_any p (filter q xs) ≡ true
 any_filtered q p [] h = absurd (cc)
 any_filtered q p (x ∷ xs) h = by_test (q x) h (any_filtered q p xs)
@@ -99,6 +100,7 @@ abbrev Goes : State → ℕ → Bool → ℕ → Unit → Type 0
 Goes st number other segments unit =
     (unit.work.segment < segments) × (is_of number unit ≡ true → is_open_unit unit ≡ true → (is_some (unit_event st unit) ≡ true) ⊎ (other ≡ true))
 
+-- where some unit of the call is open, one has an event, or the other goes on
 one_goes : (st : State) (number : ℕ) (other : Bool) (segments : ℕ) (units : List Unit) → AllByRecursion (Goes st number other segments) units → list_any (λ unit. is_of number unit && is_open_unit unit) units ≡ true →
     ((s : ℕ) × ((s < segments) × (list_any (λ unit. (is_on number s unit && is_open_unit unit) && is_some (unit_event st unit)) units ≡ true))) ⊎ (other ≡ true)
 one_goes st number other segments [] a h = absurd (cc)
@@ -129,12 +131,15 @@ one_goes st number other segments (unit ∷ units) a h = elim (or_cases (is_of n
 -- the state where a call is driven: there is room in the limits
 module _ (config : Config) (past : List Event) (st : State) (h : IsReasoned config past st) (room : RoomOf config past st) (few : config.segments ≤ MOST_SEGMENTS) (some_segment : 0 < config.segments)
     (short : length past ≤ MOST_EVENTS) (light : total_weight past ≤ MOST_WEIGHT) where
+  -- the cluster has as many segments as the settings say
   settings : st.config.segments ≡ config.segments
   settings = ap (λ (c : Config). c.segments) h.traced.kept.told.settings
 
+  -- the newest topology isn't the last there can be
   early : st.coord.newest.id < LAST_TOPOLOGY
   early = let s = room.steps in omega arith
 
+  -- a live node without the newest topology may install it
   installs : (n : ℕ) → lives st.coord n ≡ true → (installed_id st.coord n == st.coord.newest.id) ≡ false → is_some (advance_event st) ≡ true
   installs = install_there config.segments st h.traced.kept.parts.topologies settings room.owned early
 
@@ -214,7 +219,7 @@ module _ (config : Config) (past : List Event) (st : State) (h : IsReasoned conf
 
     -- ---- where no unit is open
 
-    -- nothing is noted as lost
+    -- nothing isn'ted as lost
     none_noted : least_of call.lost ≡ None → (set_of.len call.lost == 0) ≡ true
     unfolding least_of
     none_noted none = eq-eqb (set_of.len call.lost) 0 (ap set_of.len (set_of.same_set nat_cmp_total nat_cmp-IsAntisymmetric call.lost set_of.empty (λ s. not_there s (set_of.contains call.lost s) refl ∙ sym (set_of.contains-empty nat_cmp s))) ∙ set_of.len-empty nat_cmp)
@@ -368,6 +373,7 @@ record IsRoomy (config : Config) (past : List Event) (st : State) : Type 0 where
   reasoned : IsReasoned config past st
   room : RoomOf config past st
 
+-- each run keeps both
 roomy_run : (config : Config) → config.segments ≤ MOST_SEGMENTS → (past : List Event) (st : State) (events : List Event) → runs st events ≡ true → IsRoomy config past st → IsRoomy config (reverse_aux events past) (state st events)
 roomy_run config few past st [] is h = h
 roomy_run config few past st (event ∷ events) is h =
@@ -377,10 +383,12 @@ roomy_run config few past st (event ∷ events) is h =
       room = room_kept config past st event parts.0 h.reasoned.traced.kept h.reasoned.traced.units.numbered h.room;
     })
 
+-- a past has as many events as the run
 reversed_length : (events past : List Event) → length (reverse_aux events past) ≡ length events + length past
 reversed_length [] past = omega arith
 reversed_length (event ∷ events) past = let r = reversed_length events (event ∷ past) in omega arith
 
+-- and as many entries and items
 reversed_weight : (events past : List Event) → total_weight (reverse_aux events past) ≡ total_weight events + total_weight past
 reversed_weight [] past = omega arith
 reversed_weight (event ∷ events) past = let r = reversed_weight events (event ∷ past) in omega arith

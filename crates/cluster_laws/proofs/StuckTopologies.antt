@@ -22,15 +22,18 @@ CurrentOwned t = (s : ℕ) → s < length t.current → HasSome (owners_at t.cur
 
 -- ---- the next topology
 
+-- a topology with the same current owners
 owned_alike : (a b : Topology) → b.current ≡ a.current → CurrentOwned a → CurrentOwned b
 owned_alike a b same owned s within =
     let one = owned s (let n = ap length same in omega arith) in (one.0, ap (λ hash. among one.0 (owners_at hash s)) same ∙ one.1)
 
+-- a repair gives each segment an owner
 repaired_owned : (a : Topology) (live : List ℕ) → CurrentOwned (repaired a live)
 unfolding repaired
 repaired_owned a live s within =
     mended_some live a.current a.pending s (let n = length-tabulated (length a.current) (λ t. mended live t (owners_at a.current t) (owners_at a.pending t)) in omega arith)
 
+-- and so does the end of a rebalance
 completed_owned : (a : Topology) → IsOwned a → a.phase ≡ ReadNew → CurrentOwned a → CurrentOwned (completed a)
 completed_owned a owned phase current s within = by_length owned.same_length
   where

@@ -36,24 +36,29 @@ use Rattle.cluster_laws.proofs.Numbers.{NumberedFrom}
 
 -- ---- what is the same as itself
 
+-- a list, a flag, a value, an answer, an outcome and an ask are each the same as itself
 pub pointwise_itself : {A : Type 0} (same : A → A → Bool) → ((x : A) → same x x ≡ true) → (xs : List A) → pointwise same xs xs ≡ true
 pointwise_itself same each [] = refl
 pointwise_itself same each (x ∷ xs) = and_from (same x x) (pointwise same xs xs) (each x) (pointwise_itself same each xs)
 
+-- a flag
 pub flag_itself : (b : Bool) → beq b b ≡ true
 flag_itself true = refl
 flag_itself false = refl
 
+-- a value that may be there
 best_itself : (o : Option Datum) → same_option same_datum o o ≡ true
 best_itself None = refl
 best_itself (Some d) = same_datum-itself d
 
+-- an answer
 answer_itself : (a : Answer) → same_answer a a ≡ true
 answer_itself (kinds.Count n) = eq-eqb n n refl
 answer_itself (kinds.Sum i) = (signed_Decides i i).1 refl
 answer_itself (kinds.Best o) = best_itself o
 answer_itself (kinds.List items) = pointwise_itself same_item same_item-itself items
 
+-- an outcome
 pub outcome_itself : (o : Outcome) → same_outcome o o ≡ true
 unfolding same_outcome
 outcome_itself (outcomes.Value a) = answer_itself a
@@ -62,6 +67,7 @@ outcome_itself (outcomes.Again n s) = and_from (n == n) (s == s) (eq-eqb n n ref
 outcome_itself (outcomes.SegmentLost s) = eq-eqb s s refl
 outcome_itself outcomes.OriginatorLeft = refl
 
+-- an ask
 pub ask_itself : (a : Ask) → same_ask a a ≡ true
 ask_itself a = and_from (a.unit == a.unit) _ (eq-eqb a.unit a.unit refl) (and_from (a.segment == a.segment) (a.node == a.node) (eq-eqb a.segment a.segment refl) (eq-eqb a.node a.node refl))
 
@@ -76,6 +82,7 @@ pub first_there : {A : Type 0} (a b : Option A) → is_some a ≡ true → is_so
 first_there None b h = absurd (cc)
 first_there (Some x) b h = refl
 
+-- and where the other is
 pub other_there : {A : Type 0} (a b : Option A) → is_some b ≡ true → is_some (or_else a b) ≡ true
 other_there None b h = h
 other_there (Some x) b h = refl
@@ -102,11 +109,13 @@ found_from n (unit ∷ units) a = (
       )) units (found_from (suc n) units a.1),
 )
 
+-- and this holds of all units of a cluster
 pub each_found : (st : State) → NumberedFrom 1 st.units → AllByRecursion (λ (unit : Unit). unit_of st unit.work.id ≡ Some unit) st.units
 each_found st numbered = each_imply (λ (unit : Unit). (1 ≤ unit.work.id) × (find (λ (u : Unit). u.work.id == unit.work.id) st.units ≡ Some unit)) (λ (unit : Unit). unit_of st unit.work.id ≡ Some unit) (λ unit h. h.1) st.units (found_from 1 st.units numbered)
 
 -- ---- events of a unit
 
+-- what is taken of a list isn't longer than was asked for
 short : {A : Type 0} (n : ℕ) (xs : List A) → length (take n xs) ≤ n
 short n xs = omega (arith, length-take n xs)
 
@@ -120,12 +129,14 @@ batch_short st unit =
 -- an open unit whose call goes on, where there is room for what it reads
 module _ (st : State) (unit : Unit) (call : Call) (found : unit_of st unit.work.id ≡ Some unit) (there : call_of st unit.work.call ≡ Some call) (on : goes_on st (Some call) ≡ true)
     (room : read_by st.units + length (next_batch st unit).entries ≤ MOST_READ) where
+  -- the call of the unit goes on
   goes : goes_on st (call_of st unit.work.call) ≡ true
   goes = ap (goes_on st) there ∙ on
 
   abbrev taking : List Entry → Taking
   taking batch = record { unit = unit.work.id; entries = passing call unit batch; given = further_items call (passing call unit batch) }
 
+  -- what flies may be taken
   takes : (batch : List Entry) → unit.flying ≡ Some batch → is_some (take_event st unit) ≡ true
   unfolding can_take
   takes batch flies =
@@ -138,6 +149,7 @@ module _ (st : State) (unit : Unit) (call : Call) (found : unit_of st unit.work.
       ∙ and_from (same_entries (passing call unit batch) (passing call unit batch)) _ (pointwise_itself same_entry same_entry-itself (passing call unit batch))
       (pointwise_itself same_item same_item-itself (further_items call (passing call unit batch)))))
 
+  -- a unit that has read its last batch ends
   ends : is_running unit.work.state ≡ true → unit.flying ≡ None → unit.work.last ≡ true → is_some (done_event st unit) ≡ true
   unfolding can_end
   ends runs none last =
@@ -145,6 +157,7 @@ module _ (st : State) (unit : Unit) (call : Call) (found : unit_of st unit.work.
       (ap (can_end_unit st) found
       ∙ and_from (goes_on st (call_of st unit.work.call)) _ goes (and_from (is_running unit.work.state) _ runs (and_from unit.work.last (is_none unit.flying) last (ap is_none none))))
 
+  -- a unit that hasn't may read the next one
   may_read : is_running unit.work.state ≡ true → unit.flying ≡ None → unit.work.last ≡ false → can_read st (walks (call_of st unit.work.call)) (next_batch st unit) (unit_of st unit.work.id) ≡ true
   may_read runs none last =
       ap (can_read st (walks (call_of st unit.work.call)) (next_batch st unit)) found
@@ -158,6 +171,7 @@ module _ (st : State) (unit : Unit) (call : Call) (found : unit_of st unit.work.
       batch_itself : (b : Portion Entry) → same_batch b b ≡ true
       batch_itself b = and_from (same_entries b.entries b.entries) (beq b.last b.last) (pointwise_itself same_entry same_entry-itself b.entries) (flag_itself b.last)
 
+  -- by a scan or by a fetch
   reads_on : is_running unit.work.state ≡ true → unit.flying ≡ None → unit.work.last ≡ false → (is_some (scan_event st unit) || is_some (fetch_event st unit)) ≡ true
   unfolding can_scan can_fetch
   reads_on runs none last = by_form (walks (call_of st unit.work.call)) refl
@@ -170,6 +184,7 @@ module _ (st : State) (unit : Unit) (call : Call) (found : unit_of st unit.work.
           or_right (is_some (scan_event st unit)) (is_some (fetch_event st unit))
           (allowed_there st (events.Fetch (record { unit = unit.work.id; batch = next_batch st unit })) (ap (λ w. can_read st w (next_batch st unit) (unit_of st unit.work.id)) (sym e) ∙ may_read runs none last))
 
+  -- a unit that was asked begins where its node has the topology
   begins : is_asked unit.work.state ≡ true → unit.work.asked_at ≤ installed_id st.coord unit.work.node → is_some (begin_event st unit) ≡ true
   unfolding can_begin
   begins asked least =
