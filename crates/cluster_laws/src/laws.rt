@@ -1,10 +1,14 @@
 //! The laws. None does any work: a call of one hands what it ensures to the caller's proof.
 
 ghost use Rattle.cluster_laws.specs.Laws.{
+  AnsweredCallsStay,
+  AnswersAreRight,
+  CallsAreTold,
   CopiesHold,
   EventsKeepAll,
   EventsTellTheState,
   NoCallIsStuck,
+  OneUnitStands,
   OutcomesAreCaused,
   StagesAreTold,
 };
@@ -55,4 +59,32 @@ pub fn outcomes_are_caused()
 /// topology is settled.
 pub fn no_call_is_stuck()
     ensures { NoCallIsStuck }
+{}
+
+/// In every such run a call has at most one open unit on a segment, and none on a segment on which
+/// a unit of it has ended.
+pub fn one_unit_stands()
+    ensures { OneUnitStands }
+{}
+
+/// In every such run the events tell what the cluster has of calls: what a call asks for, its
+/// rounds, outcome, evidence, entries taken and number of items given, the units that its rounds
+/// asked for, and the segments that are complete for it.
+pub fn calls_are_told()
+    ensures { CallsAreTold }
+{}
+
+/// In every such run an event after the answer of a call changes nothing of what is told of it: its
+/// span, outcome, evidence, items given, rounds made and segments ended.
+pub fn answered_calls_stay()
+    ensures { AnsweredCallsStay }
+{}
+
+/// In every such run the answers of every call are right. A value is the plain pipeline over the
+/// call's evidence, and a walk that ended has given the plain pipeline's list; in both cases the
+/// evidence keeps what the call's guarantee says. And after each take the items given so far are
+/// the plain pipeline's list of the entries taken so far, each of which was held in the call, and
+/// none twice but for at least once.
+pub fn answers_are_right()
+    ensures { AnswersAreRight }
 {}
