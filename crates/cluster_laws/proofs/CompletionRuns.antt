@@ -26,7 +26,7 @@ use Rattle.cluster_laws.proofs.Starts.{good_config, start_kept}
 use Rattle.cluster_laws.proofs.UnitPlaces.{AllPlaced, Placed, running_open}
 
 -- a running unit's node reads its segment, so it holds the map's part of it
-shown : (config : Config) (past : List Event) (st : State) → IsKept config past st → AllPlaced st.coord st.units → Shown config past st
+pub shown : (config : Config) (past : List Event) (st : State) → IsKept config past st → AllPlaced st.coord st.units → Shown config past st
 shown config past st h placed = each_imply (Placed st.coord) (ShownOne config past st) one st.units placed
   where
     one : (unit : Unit) → Placed st.coord unit → ShownOne config past st unit
@@ -37,7 +37,7 @@ shown config past st h placed = each_imply (Placed st.coord) (ShownOne config pa
         (h.parts.copies unit.work.node unit.work.segment lives held)
 
 -- what is known of the next topology where one is announced
-next_known : (config : Config) (past : List Event) (st : State) (event : Event) → allowed st event ≡ true → IsKept config past st →
+pub next_known : (config : Config) (past : List Event) (st : State) (event : Event) → allowed st event ≡ true → IsKept config past st →
     (next : Topology) → event ≡ Announce next → (all_installed st.coord ≡ true) × (next.id ≡ st.coord.newest.id + 1)
 next_known config past st event may h next e =
     let can : can_announce st next ≡ true = subst (λ x. allowed st x ≡ true) e may in

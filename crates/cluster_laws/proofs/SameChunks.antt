@@ -29,7 +29,7 @@ same_stamped_is a b h =
     let deadlines = same_deadline_is a.stamped.until b.stamped.until inner.1 in
     λ i. record { key = keys i; stamped = record { value = values i; until = deadlines i } }
 
-same_stamped_itself : (a : StampedEntry) → same_stamped a a ≡ true
+pub same_stamped_itself : (a : StampedEntry) → same_stamped a a ≡ true
 same_stamped_itself a =
     and_from (same_bytes a.key a.key) _ ((bytes_decides a.key a.key).1 refl)
     (and_from (same_datum a.stamped.value a.stamped.value) _ (same_datum-itself a.stamped.value) (same_deadline_itself a.stamped.until))

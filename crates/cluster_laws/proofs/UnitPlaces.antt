@@ -162,7 +162,7 @@ named_placed c number change units f p =
         by_test true t = f t p
         by_test false t = p
 
-same_flag : (a b : Bool) → beq a b ≡ true → a ≡ b
+pub same_flag : (a b : Bool) → beq a b ≡ true → a ≡ b
 same_flag true true h = refl
 same_flag false false h = refl
 same_flag true false h = absurd (cc)

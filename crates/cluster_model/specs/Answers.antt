@@ -1,11 +1,12 @@
 -- How a call is answered.
 use Rattle.std.specs.Prelude.{ℕ, ◌==◌, Bool, false, not, ◌&&◌, ◌||◌, if◌then◌else◌, List, [], ◌∷◌, Option, None, Some, is_none}
-use Rattle.std.specs.List.{filter, flat_map}
+use Rattle.std.specs.List.{filter, flat_map, range_with_len}
 use Rattle.std.specs.FinMap as map_of
 use Rattle.std.specs.FinSet as set_of
 use Rattle.std.specs.Ordering.{nat_cmp}
 use Rattle.delivery_mode.specs.Guarantee.{asks_again, keeps_lost}
 use Rattle.grid_base.specs.declared.entry.Entry.{Entry}
+use Rattle.grid_base.specs.declared.limits.TheConstants.{MOST_SEGMENTS}
 use Rattle.grid_event.specs.declared.call_events.AnswerEvent.{AnswerEvent}
 use Rattle.grid_event.specs.declared.outcome.Outcome.{Outcome}
 use Rattle.grid_event.specs.declared.outcome.Outcome.TheVariants.{Value, Ended, Again, SegmentLost, OriginatorLeft}
@@ -28,10 +29,14 @@ evidence_of st number call =
     (filter (λ (unit : Unit). is_on number segment unit && counts call unit) st.units))
     (segments_of st)
 
--- the least segment of a set, where it has one
+-- the first segment of a list, where it has one
 abbrev pub first_of : List ℕ → Option ℕ
 first_of [] = None
 first_of (segment ∷ segments) = Some segment
+
+-- the least segment of a set, where it has one
+unfoldable pub least_of : set_of.FinSet nat_cmp → Option ℕ
+least_of segments = first_of (filter (set_of.contains segments) (range_with_len 0 MOST_SEGMENTS))
 
 -- a call has a value, or a walk ends, once every segment is complete; a call that doesn't ask again, in place of that, once its
 -- round was made and no unit is open
@@ -64,7 +69,7 @@ unfoldable pub outcome_of : State → ℕ → Call → Option Outcome
 outcome_of st number call =
     if not (lives st.coord call.originator)
     then Some OriginatorLeft
-    else outcome_by st number call (first_of (set_of.items call.lost))
+    else outcome_by st number call (least_of call.lost)
 
 abbrev pub is_that_outcome : Outcome → Option Outcome → Bool
 is_that_outcome outcome None = false
