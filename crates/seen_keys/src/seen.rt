@@ -7,7 +7,7 @@ ghost use Rattle.grid_base.specs.Datum.{same_bytes};
 ghost use Rattle.seen_keys.specs.Passed.{has_passed, with_key, passing, all_passed, without_segment};
 
 use crate::places::{Places, add_key, add_keys, copy_places, forget, holds};
-use grid_base::{Entries, Key, NoMemory, SegmentId};
+use grid_base::{Entries, Entry, Key, NoMemory, SegmentId};
 use std::alloc::Global;
 use std::marker::Model;
 
@@ -98,6 +98,19 @@ impl Seen {
         let entries = self.passing(alloc, segment, batch)?;
         add_keys(&mut self.places, alloc, segment, batch.as_slice())?;
         Ok(entries)
+    }
+
+    /// The keys of the entries pass in the segment. Where memory runs out no key passes.
+    pub fn pass_each(
+        &mut self,
+        alloc: Global,
+        segment: SegmentId,
+        entries: &[Entry],
+    ) -> Result<(), NoMemory>
+        ensures ok { OnOk result (self.new ≡ all_passed self.old segment entries.now) }
+        ensures err { OnErr result (self.new ≡ self.old) }
+    {
+        add_keys(&mut self.places, alloc, segment, entries)
     }
 
     /// The same keys in memory of their own. The only failure is that memory runs out.

@@ -1,0 +1,12 @@
+pub mod RowTables
+pub mod SetLaws
+pub mod CallLaws
+pub mod ListLaws
+pub mod UnitLaws
+pub mod RightLaws
+pub mod RoundLaws
+pub mod CallsLaws
+pub mod EvidenceLaws
+pub mod QueryLaws
+pub mod NoteLaws
+pub mod RoundQueries

@@ -1,0 +1,112 @@
+use Rattle.std.proofs.Common.{◌≡◌, Bool, true, nat_le, if◌then◌else◌, Some, is_some, refl, sym, subst, ap, ◌∙◌, arith}
+use Rattle.std.specs.FinMap as map_of
+use Rattle.std.specs.Prelude.{slice_get}
+use Rattle.local_publisher.specs.Units.{begun}
+use Rattle.local_publisher.specs.declared.unit_state.UnitState.{UnitState}
+use Rattle.local_publisher.specs.declared.unit_state.UnitState.TheVariants.{Running, Refused}
+use Rattle.cluster_model.specs.State.{Unit, is_asked, is_ended, is_open_unit, is_running}
+use Rattle.local_publisher.specs.Stages.{is_open}
+use Rattle.cluster_calls.specs.Calling.{Calling, changes_unit, is_one, unit_in, may_begin}
+use Rattle.cluster_calls.specs.Rows.{calls_in, changes_row, may_close, with_row_without_open}
+use Rattle.cluster_calls.proofs.CallsLaws.{changed_kept, changed_seen, numbers, read_unit, asked_open, may_close_it}
+use Rattle.cluster_calls.proofs.ListLaws.{within_get}
+use Rattle.cluster_calls.proofs.RightLaws.{there, after_closed, after_same, and_left}
+use Rattle.cluster_calls.proofs.RowTables.{calls_in-same}
+use Rattle.cluster_calls.proofs.calls.Calls.begin.Goals as goal
+
+pub index_mut-unit-requires : goal.index_mut-unit-requires
+index_mut-unit-requires c =
+    let units = c.self.inside.units.items in
+    let may : is_one (may_begin c.args.at) (unit_in units c.args.unit) ≡ true = subst (λ (x : Calling). is_one (may_begin c.args.at) (unit_in x.units c.args.unit) ≡ true) (sym c.self.view_is) c.requires in
+    let h = there units c.args.unit (may_begin c.args.at) (numbers c.self.inside c.self.invariant) may in
+    let at : slice_get units c.place_of-place.result ≡ Some h.unit = ap (slice_get units) c.place_of-place.ensures ∙ h.at in
+    omega (arith, within_get units c.place_of-place.result h.unit at, c.self.inside.units.ok.0)
+
+pub begin-requires : goal.begin-requires
+begin-requires c =
+    let units = c.self.inside.units.items in
+    let may : is_one (may_begin c.args.at) (unit_in units c.args.unit) ≡ true = subst (λ (x : Calling). is_one (may_begin c.args.at) (unit_in x.units c.args.unit) ≡ true) (sym c.self.view_is) c.requires in
+    let h = there units c.args.unit (may_begin c.args.at) (numbers c.self.inside c.self.invariant) may in
+    let at : slice_get units c.place_of-place.result ≡ Some h.unit = ap (slice_get units) c.place_of-place.ensures ∙ h.at in
+    let is = read_unit units c.place_of-place.result h.unit c.index_mut-unit.result.now at c.index_mut-unit.ensures.value in
+    subst (λ (u : Unit). may_begin c.args.at u ≡ true) (sym is) h.passes
+
+pub close-requires : goal.close-requires
+close-requires c =
+    let units = c.self.inside.units.items in
+    let may : is_one (may_begin c.args.at) (unit_in units c.args.unit) ≡ true = subst (λ (x : Calling). is_one (may_begin c.args.at) (unit_in x.units c.args.unit) ≡ true) (sym c.self.view_is) c.requires in
+    let h = there units c.args.unit (may_begin c.args.at) (numbers c.self.inside c.self.invariant) may in
+    let at : slice_get units c.place_of-place.result ≡ Some h.unit = ap (slice_get units) c.place_of-place.ensures ∙ h.at in
+    let is = read_unit units c.place_of-place.result h.unit c.index_mut-unit.result.now at c.index_mut-unit.ensures.value in
+    let state = asked_open h.unit.work.state (and_left (is_asked h.unit.work.state) (nat_le h.unit.work.asked_at c.args.at) h.passes) in
+    let place = c.self.invariant.right.placed c.place_of-place.result h.unit at in
+    let flew : is_some h.unit.flying ≡ true → is_running h.unit.work.state ≡ true = place.running in
+    let call = c.call-call.ensures ∙ ap (λ (u : Unit). u.work.call) is in
+    let open_ : is_open_unit h.unit ≡ true = ap is_open state in
+    subst (λ n. is_one may_close (map_of.get c.self.inside.table n) ≡ true) (sym call)
+    (may_close_it c.self.inside.segments units c.self.inside.table c.place_of-place.result h.unit c.self.invariant.right at open_)
+
+pub invariant_of-self : goal.invariant_of-self
+invariant_of-self c =
+    let units = c.self.inside.units.items in
+    let may : is_one (may_begin c.args.at) (unit_in units c.args.unit) ≡ true = subst (λ (x : Calling). is_one (may_begin c.args.at) (unit_in x.units c.args.unit) ≡ true) (sym c.self.view_is) c.requires in
+    let h = there units c.args.unit (may_begin c.args.at) (numbers c.self.inside c.self.invariant) may in
+    let at : slice_get units c.place_of-place.result ≡ Some h.unit = ap (slice_get units) c.place_of-place.ensures ∙ h.at in
+    let is = read_unit units c.place_of-place.result h.unit c.index_mut-unit.result.now at c.index_mut-unit.ensures.value in
+    let state = asked_open h.unit.work.state (and_left (is_asked h.unit.work.state) (nat_le h.unit.work.asked_at c.args.at) h.passes) in
+    let place = c.self.invariant.right.placed c.place_of-place.result h.unit at in
+    let flew : is_some h.unit.flying ≡ true → is_running h.unit.work.state ≡ true = place.running in
+    let call = c.call-call.ensures ∙ ap (λ (u : Unit). u.work.call) is in
+    let open_ : is_open_unit h.unit ≡ true = ap is_open state in
+    let after : Unit = record h.unit { work = begun h.unit.work c.args.runs c.args.at } in
+    let stage : (b : Bool) → UnitState = λ b. if b then Running else Refused c.args.at in
+    let landed : is_some h.unit.flying ≡ true → is_running after.work.state ≡ true = λ e. absurd (let w = sym (flew e) ∙ ap is_running state in cc) in
+    changed_kept c.self.inside c.self.invariant c.place_of-place.result h.unit after c.begin.new.self
+    (changes_row h.unit.work.call with_row_without_open c.self.inside.table) c.close.new.self c.self.inside.read at
+    (c.begin.ensures ∙ ap (λ (u : Unit). record u { work = begun u.work c.args.runs c.args.at }) is)
+    (c.close.ensures ∙ ap (λ n. changes_row n with_row_without_open c.self.inside.table) call) refl c.self.invariant.few
+    (after_closed c.self.inside.segments units c.self.inside.table c.place_of-place.result h.unit after c.self.invariant.right at (record { id = refl; call = refl; segment = refl })
+    landed open_ (ap (λ b. is_open (stage b)) c.if-not-runs.true) (ap (λ b. is_ended (stage b)) c.if-not-runs.true ∙ sym (ap is_ended state)))
+
+pub invariant_of-self-else-not-runs : goal.invariant_of-self-else-not-runs
+invariant_of-self-else-not-runs c =
+    let units = c.self.inside.units.items in
+    let may : is_one (may_begin c.args.at) (unit_in units c.args.unit) ≡ true = subst (λ (x : Calling). is_one (may_begin c.args.at) (unit_in x.units c.args.unit) ≡ true) (sym c.self.view_is) c.requires in
+    let h = there units c.args.unit (may_begin c.args.at) (numbers c.self.inside c.self.invariant) may in
+    let at : slice_get units c.place_of-place.result ≡ Some h.unit = ap (slice_get units) c.place_of-place.ensures ∙ h.at in
+    let is = read_unit units c.place_of-place.result h.unit c.index_mut-unit.result.now at c.index_mut-unit.ensures.value in
+    let state = asked_open h.unit.work.state (and_left (is_asked h.unit.work.state) (nat_le h.unit.work.asked_at c.args.at) h.passes) in
+    let place = c.self.invariant.right.placed c.place_of-place.result h.unit at in
+    let flew : is_some h.unit.flying ≡ true → is_running h.unit.work.state ≡ true = place.running in
+    let call = c.call-call.ensures ∙ ap (λ (u : Unit). u.work.call) is in
+    let open_ : is_open_unit h.unit ≡ true = ap is_open state in
+    let after : Unit = record h.unit { work = begun h.unit.work c.args.runs c.args.at } in
+    let stage : (b : Bool) → UnitState = λ b. if b then Running else Refused c.args.at in
+    let landed : is_some h.unit.flying ≡ true → is_running after.work.state ≡ true = λ e. absurd (let w = sym (flew e) ∙ ap is_running state in cc) in
+    changed_kept c.self.inside c.self.invariant c.place_of-place.result h.unit after c.begin.new.self c.self.inside.table c.self.inside.table c.self.inside.read at
+    (c.begin.ensures ∙ ap (λ (u : Unit). record u { work = begun u.work c.args.runs c.args.at }) is) refl refl c.self.invariant.few
+    (after_same c.self.inside.segments units c.self.inside.table c.place_of-place.result h.unit after c.self.invariant.right at (record { id = refl; call = refl; segment = refl })
+    landed (ap (λ b. is_open (stage b)) c.if-not-runs.false ∙ sym open_) (ap (λ b. is_ended (stage b)) c.if-not-runs.false ∙ sym (ap is_ended state)))
+
+pub returns-then-not-runs : goal.returns-then-not-runs
+returns-then-not-runs c =
+    let units = c.self.inside.units.items in
+    let may : is_one (may_begin c.args.at) (unit_in units c.args.unit) ≡ true = subst (λ (x : Calling). is_one (may_begin c.args.at) (unit_in x.units c.args.unit) ≡ true) (sym c.self.view_is) c.requires in
+    let h = there units c.args.unit (may_begin c.args.at) (numbers c.self.inside c.self.invariant) may in
+    let at : slice_get units c.place_of-place.result ≡ Some h.unit = ap (slice_get units) c.place_of-place.ensures ∙ h.at in
+    let is = read_unit units c.place_of-place.result h.unit c.index_mut-unit.result.now at c.index_mut-unit.ensures.value in
+    changed_seen c.self.inside c.self.invariant c.args.unit c.place_of-place.result h.unit c.begin.new.self c.close.new.self (λ u. record u { work = begun u.work c.args.runs c.args.at })
+    c.place_of-place.ensures h.positive h.at (c.begin.ensures ∙ ap (λ (u : Unit). record u { work = begun u.work c.args.runs c.args.at }) is)
+    (ap calls_in c.close.ensures ∙ calls_in-same c.self.inside.table c.call-call.result with_row_without_open (λ row. refl))
+    ∙ ap (changes_unit c.args.unit (λ u. record u { work = begun u.work c.args.runs c.args.at })) c.self.view_is
+
+pub returns-else-not-runs : goal.returns-else-not-runs
+returns-else-not-runs c =
+    let units = c.self.inside.units.items in
+    let may : is_one (may_begin c.args.at) (unit_in units c.args.unit) ≡ true = subst (λ (x : Calling). is_one (may_begin c.args.at) (unit_in x.units c.args.unit) ≡ true) (sym c.self.view_is) c.requires in
+    let h = there units c.args.unit (may_begin c.args.at) (numbers c.self.inside c.self.invariant) may in
+    let at : slice_get units c.place_of-place.result ≡ Some h.unit = ap (slice_get units) c.place_of-place.ensures ∙ h.at in
+    let is = read_unit units c.place_of-place.result h.unit c.index_mut-unit.result.now at c.index_mut-unit.ensures.value in
+    changed_seen c.self.inside c.self.invariant c.args.unit c.place_of-place.result h.unit c.begin.new.self c.self.inside.table (λ u. record u { work = begun u.work c.args.runs c.args.at })
+    c.place_of-place.ensures h.positive h.at (c.begin.ensures ∙ ap (λ (u : Unit). record u { work = begun u.work c.args.runs c.args.at }) is) refl
+    ∙ ap (changes_unit c.args.unit (λ u. record u { work = begun u.work c.args.runs c.args.at })) c.self.view_is

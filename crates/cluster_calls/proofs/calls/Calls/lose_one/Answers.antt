@@ -1,0 +1,39 @@
+use Rattle.std.proofs.Common.{◌≡◌, cond, ◌&&◌, ◌==◌, Some, None, sym, subst, ap, ◌∙◌}
+use Rattle.std.specs.Prelude.{slice_get, slice_set}
+use Rattle.cluster_model.specs.State.{Unit, is_open_unit, with_loss}
+use Rattle.cluster_calls.specs.Calling.{Calling, is_one, with_departure}
+use Rattle.cluster_calls.proofs.CallsLaws.{read_unit}
+use Rattle.cluster_calls.proofs.ListLaws.{get_within}
+use Rattle.cluster_calls.proofs.QueryLaws.{unchanged_at}
+use Rattle.cluster_calls.proofs.calls.Calls.lose_one.Goals as goal
+
+pub returns-then-not-is_open : goal.returns-then-not-is_open
+returns-then-not-is_open c = λ u g.
+    let at : slice_get c.self.inside.units.items c.args.place ≡ Some u = subst (λ (x : Calling). slice_get x.units c.args.place ≡ Some u) (sym c.self.view_is) g in
+    let is = read_unit c.self.inside.units.items c.args.place u c.index-unit.result.now at c.index-unit.ensures in
+    unchanged_at c.args.self.now c.args.place u (with_departure c.args.node) g
+    (ap (λ b. cond (b && (u.work.node == c.args.node)) (with_loss None u) u) (sym (c.if-not-is_open.ensures ∙ ap is_open_unit is)))
+
+pub returns-then-not-is_at : goal.returns-then-not-is_at
+returns-then-not-is_at c = λ u g.
+    let at : slice_get c.self.inside.units.items c.args.place ≡ Some u = subst (λ (x : Calling). slice_get x.units c.args.place ≡ Some u) (sym c.self.view_is) g in
+    let is = read_unit c.self.inside.units.items c.args.place u c.index-unit.result.now at c.index-unit.ensures in
+    unchanged_at c.args.self.now c.args.place u (with_departure c.args.node) g
+    (ap (λ b. cond (b && (u.work.node == c.args.node)) (with_loss None u) u) (sym (c.if-not-is_open.ensures ∙ ap is_open_unit is))
+    ∙ ap (λ b. cond b (with_loss None u) u) (sym (c.if-not-is_at.ensures ∙ ap (λ (v : Unit). v.work.node == c.args.node) is)))
+
+pub lose-requires : goal.lose-requires
+lose-requires c =
+    let h = get_within c.args.self.now.units c.args.place c.requires in
+    let at : slice_get c.self.inside.units.items c.args.place ≡ Some h.0 = subst (λ (x : Calling). slice_get x.units c.args.place ≡ Some h.0) (sym c.self.view_is) h.1 in
+    let is = read_unit c.self.inside.units.items c.args.place h.0 c.index-unit.result.now at c.index-unit.ensures in
+    ap (is_one is_open_unit) h.1 ∙ sym (c.if-not-is_open.ensures ∙ ap is_open_unit is)
+
+pub returns : goal.returns
+returns c = λ u g.
+    let at : slice_get c.self.inside.units.items c.args.place ≡ Some u = subst (λ (x : Calling). slice_get x.units c.args.place ≡ Some u) (sym c.self.view_is) g in
+    let is = read_unit c.self.inside.units.items c.args.place u c.index-unit.result.now at c.index-unit.ensures in
+    c.lose.ensures u g
+    ∙ ap (λ (v : Unit). record c.args.self.now { units = slice_set c.args.self.now.units c.args.place v })
+    (sym (ap (λ b. cond (b && (u.work.node == c.args.node)) (with_loss None u) u) (sym (c.if-not-is_open.ensures ∙ ap is_open_unit is))
+    ∙ ap (λ b. cond b (with_loss None u) u) (sym (c.if-not-is_at.ensures ∙ ap (λ (v : Unit). v.work.node == c.args.node) is))))

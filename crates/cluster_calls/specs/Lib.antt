@@ -1,0 +1,6 @@
+pub mod Calling
+pub mod Takings
+pub mod Tallied
+pub mod Tallies
+pub mod Rows
+pub mod Insides

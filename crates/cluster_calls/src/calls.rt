@@ -1,0 +1,253 @@
+//! The calls of a cluster and their units: what is kept, and the questions about it.
+
+ghost use Rattle.std.specs.Prelude.{◌≡◌, ◌+◌, ◌-◌, ◌<◌, ◌≤◌, ◌^◌, true, Some, drop, is_some, length, nat_le, take, unwrap_or};
+ghost use Rattle.std.specs.List.{filter, list_all};
+ghost use Rattle.std.specs.Option.{option_copied};
+ghost use Rattle.cluster_model.specs.Answers.{first_of};
+ghost use Rattle.cluster_model.specs.State as states;
+ghost use Rattle.cluster_model.specs.State.{is_open_unit};
+ghost use Rattle.cluster_model.specs.Topologies.{is_complete};
+ghost use Rattle.cluster_model.specs.Units.{read_by};
+ghost use Rattle.suspect_retry.specs.Rounds.{closed_at};
+ghost use Rattle.cluster_calls.specs.Calling.{AreNumbered, all_complete_in, any_open, call_in, caught_up, incomplete_from, newest_in, no_calls, open_in, round_units, unit_in};
+
+mod evidence;
+mod losses;
+mod reading;
+mod rounds;
+
+use crate::call::Call;
+use crate::table::Table;
+use crate::unit::Unit;
+use grid_base::{CallId, SegmentId, TopologyId, UnitId};
+use local_publisher::UnitState;
+use std::alloc::Global;
+use std::marker::Model;
+
+/// The calls of a cluster and their units. A unit's number is its place, counted from 1.
+#[derive(Drop)]
+pub struct Calls {
+    segments: u16,
+    units: Vec<Unit>,
+    table: Table,
+    read: u64,
+}
+
+impl Model for Calls {
+    ghost use Rattle.std.specs.Coded.{codes, coded_ℕ};
+    ghost use Rattle.std.specs.FinMap as map_of;
+    ghost use Rattle.std.specs.Ordering.{nat_cmp};
+    ghost use Rattle.cluster_calls.specs.contracts.call.Call as call;
+    ghost use Rattle.cluster_calls.specs.contracts.unit.Unit as unit;
+    ghost use Rattle.cluster_calls.specs.Calling.{Calling};
+
+    ghost Value = { Calling };
+
+    ghost coded = { Prim.hlevel (codes, map_of.code {R = nat_cmp} coded_ℕ call.the_row.coded) };
+
+    ghost use Rattle.cluster_calls.specs.Insides.{IsCalls, calling_of};
+
+    ghost view = { calling_of };
+
+    ghost invariant = { IsCalls };
+}
+
+impl Calls {
+    /// No calls yet, in a cluster of at most 256 segments. It takes no memory.
+    pub fn new(alloc: Global, segments: u16) -> Calls
+        requires { segments ≤ 256 }
+        ensures { result ≡ no_calls segments }
+    {
+        Calls {
+            segments,
+            units: Vec::new(alloc),
+            table: Table::new(alloc),
+            read: 0,
+        }
+    }
+
+    /// The call of that number, where there is one.
+    pub fn call(&self, number: CallId) -> Option<&Call>
+        ensures { option_copied result ≡ call_in self.now number }
+    {
+        match self.table.get(number) {
+            None => None,
+            Some(row) => Some(&row.call),
+        }
+    }
+
+    /// How many segments there are, at most 256.
+    pub fn segments(&self) -> u16
+        ensures segments { result ≡ self.now.segments }
+        ensures few { self.now.segments ≤ 256 }
+    {
+        self.segments
+    }
+
+    /// All units, in the order of their numbers, of which there are fewer than 2^32.
+    pub fn units(&self) -> &[Unit]
+        ensures units { result.now ≡ self.now.units }
+        ensures numbered { AreNumbered self.now.units }
+        ensures few { length self.now.units < 2 ^ 32 }
+    {
+        self.units.as_slice()
+    }
+
+    /// The unit of that number, where there is one. Its call is there.
+    pub fn unit(&self, number: UnitId) -> Option<&Unit>
+        ensures unit { option_copied result ≡ unit_in self.now.units number }
+        ensures within { (unit : states.Unit) → unit_in self.now.units number ≡ Some unit → unit.work.segment < self.now.segments }
+        ensures called { (unit : states.Unit) → unit_in self.now.units number ≡ Some unit → is_some (call_in self.now unit.work.call) ≡ true }
+    {
+        let units = self.units.as_slice();
+        if number.number() == 0 {
+            return None;
+        }
+        units.get(place_of(number))
+    }
+
+    /// The units of the call's last round, by ascending segment. The open ones among them are all
+    /// open units of the call.
+    pub fn last_round(&self, number: CallId) -> &[Unit]
+        ensures units { (call : states.Call) → call_in self.now number ≡ Some call → result.now ≡ round_units self.now.units call }
+        ensures unended { filter is_open_unit result.now ≡ open_in self.now number }
+    {
+        match self.table.get(number) {
+            None => &[],
+            Some(row) => {
+                let (start, count) = row.call.last_round();
+                numbered_on(self.units.as_slice(), start, count)
+            }
+        }
+    }
+
+    /// Whether a unit of the call is open.
+    pub fn has_open(&self, number: CallId) -> bool
+        ensures { result ≡ any_open self.now.units number }
+    {
+        match self.table.get(number) {
+            None => false,
+            Some(row) => row.tally.has_open(),
+        }
+    }
+
+    /// Whether the segment is complete for the call.
+    pub fn is_complete(&self, number: CallId, segment: SegmentId) -> bool
+        ensures { result ≡ is_complete self.now.units number segment }
+    {
+        if segment.number() >= self.segments {
+            return false;
+        }
+        match self.table.get(number) {
+            None => false,
+            Some(row) => row.tally.is_complete(segment),
+        }
+    }
+
+    /// Whether every segment is complete for the call.
+    pub fn all_complete(&self, number: CallId) -> bool
+        ensures { result ≡ all_complete_in self.now number }
+    {
+        match self.table.get(number) {
+            None => self.segments == 0,
+            Some(row) => row.tally.all_complete(),
+        }
+    }
+
+    /// The least segment, not below this one, that is incomplete for the call.
+    pub fn incomplete_from(&self, number: CallId, segment: SegmentId) -> Option<SegmentId>
+        ensures { result ≡ first_of (incomplete_from segment (self.now.segments - segment) self.now.units number) }
+    {
+        for place in segment.number()..self.segments {
+            let segment = SegmentId::new(place);
+            if !self.is_complete(number, segment) {
+                return Some(segment);
+            }
+        }
+        None
+    }
+
+    /// The newest unit of the call on the segment, where there is one.
+    pub fn newest(&self, number: CallId, segment: SegmentId) -> Option<&Unit>
+        ensures { option_copied result ≡ newest_in self.now.units number segment }
+    {
+        if segment.number() >= self.segments {
+            return None;
+        }
+        match self.table.get(number) {
+            None => None,
+            Some(row) => self.unit(UnitId::new(row.tally.newest(segment))),
+        }
+    }
+
+    /// Whether the topology with the number `installed` isn't older than any at which a unit of the
+    /// call's last round was refused or was lost by an installation.
+    pub fn has_caught_up(&self, number: CallId, installed: TopologyId) -> bool
+        ensures { (call : states.Call) → call_in self.now number ≡ Some call → result ≡ caught_up self.now.units call installed }
+    {
+        are_closed_by(self.last_round(number), installed)
+    }
+
+    /// How many entries all units have read.
+    pub fn read(&self) -> u64
+        ensures { result ≡ read_by self.now.units }
+    {
+        self.read
+    }
+}
+
+/// So many units, from the one with the number `start` on.
+fn numbered_on(units: &[Unit], start: u32, count: u32) -> &[Unit]
+    requires positive { 0 < count → 1 ≤ start }
+    requires within { 0 < count → start + count ≤ length units.now + 1 }
+    ensures { result.now ≡ take count (drop (start - 1) units.now) }
+{
+    if count == 0 {
+        return &[];
+    }
+    let place = start as usize - 1;
+    &units[place..place + count as usize]
+}
+
+/// Whether no unit was refused, or lost by an installation, at a later topology than this one.
+fn are_closed_by(units: &[Unit], installed: TopologyId) -> bool
+    ensures { result ≡ list_all (λ unit. nat_le (closed_at unit.work.state) installed) units.now }
+{
+    for unit in units {
+        if installed.number() < closed_at(unit.state()) {
+            return false;
+        }
+    }
+    true
+}
+
+/// The place of the unit of that number, which is at least 1.
+fn place_of(number: UnitId) -> usize
+    ensures { result ≡ number - 1 }
+{
+    number.number().saturating_sub(1) as usize
+}
+
+/// The topology at which a unit was refused or was lost by an installation, and 0 for any other
+/// unit.
+fn closed_at(state: UnitState) -> u32
+    ensures { result ≡ closed_at state }
+{
+    match state {
+        UnitState::Refused(at) => at.number(),
+        UnitState::Lost(at) => lost_at(at),
+        UnitState::Asked => 0,
+        UnitState::Running => 0,
+        UnitState::Ended => 0,
+    }
+}
+
+/// The topology by whose installation a unit was lost, and 0 where it was lost by a departure.
+fn lost_at(at: Option<TopologyId>) -> u32
+    ensures { result ≡ unwrap_or at 0 }
+{
+    match at {
+        Some(at) => at.number(),
+        None => 0,
+    }
+}

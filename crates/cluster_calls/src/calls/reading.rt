@@ -1,0 +1,95 @@
+//! What becomes of a unit: it begins, it reads, its batches are taken, it ends.
+
+ghost use Rattle.std.specs.Prelude.{◌≡◌, ◌+◌, ◌≤◌, true, length, Some, OnErr, OnOk};
+ghost use Rattle.grid_base.specs.declared.limits.TheConstants.{MOST_READ};
+ghost use Rattle.local_publisher.specs.Units.{begun, ended, extended};
+ghost use Rattle.cluster_model.specs.Units.{read_by};
+ghost use Rattle.cluster_calls.specs.Calling.{changes_unit, flies, is_one, may_begin, may_end, may_read, taking_of, unit_in};
+
+use crate::calls::{Calls, place_of};
+use grid_base::{Batch, Entry, NoMemory, TopologyId, UnitId};
+use std::alloc::Global;
+
+impl Calls {
+    /// The unit, which is asked, and not by a later topology than `at`, runs, or it is refused at
+    /// the topology `at`.
+    pub fn begin(&mut self, unit: UnitId, runs: bool, at: TopologyId)
+        requires { is_one (may_begin at) (unit_in self.old.units unit) ≡ true }
+        ensures { self.new ≡ changes_unit unit (λ u. record u { work = begun u.work runs at }) self.old }
+    {
+        let place = place_of(unit);
+        let unit = &mut self.units[place];
+        let call = unit.call();
+        unit.begin(runs, at);
+        if !runs {
+            self.table.close(call);
+        }
+    }
+
+    /// The unit, which runs and has more to read, has read the batch. After want of memory all is
+    /// as before.
+    pub fn scan(&mut self, unit: UnitId, batch: Batch) -> Result<(), NoMemory>
+        requires may { is_one may_read (unit_in self.old.units unit) ≡ true }
+        requires few { read_by self.old.units + length batch.entries ≤ MOST_READ }
+        ensures ok { OnOk result (self.new ≡ changes_unit unit (λ u. record u { work = extended u.work batch }) self.old) }
+        ensures err { OnErr result (self.new ≡ self.old) }
+    {
+        let place = place_of(unit);
+        let more = batch.entries.len() as u64;
+        let unit = &mut self.units[place];
+        unit.scan(batch)?;
+        self.read += more;
+        Ok(())
+    }
+
+    /// The unit, which runs and has more to read, has read the batch, which flies. After want of
+    /// memory all is as before.
+    pub fn fetch(&mut self, unit: UnitId, batch: Batch) -> Result<(), NoMemory>
+        requires may { is_one may_read (unit_in self.old.units unit) ≡ true }
+        requires few { read_by self.old.units + length batch.entries ≤ MOST_READ }
+        ensures ok { OnOk result (self.new ≡ changes_unit unit (λ u. record { work = extended u.work batch; flying = Some batch.entries }) self.old) }
+        ensures err { OnErr result (self.new ≡ self.old) }
+    {
+        let place = place_of(unit);
+        let more = batch.entries.len() as u64;
+        let unit = &mut self.units[place];
+        unit.fetch(batch)?;
+        self.read += more;
+        Ok(())
+    }
+
+    /// What flies of the unit is taken: its call takes the entries, and so many items are given.
+    /// After want of memory all is as before; more items than 64 bits count are want of memory.
+    pub fn take(
+        &mut self,
+        alloc: Global,
+        unit: UnitId,
+        entries: &[Entry],
+        given: u64,
+    ) -> Result<(), NoMemory>
+        requires { is_one flies (unit_in self.old.units unit) ≡ true }
+        ensures ok { OnOk result (self.new ≡ taking_of unit entries.now given (unit_in self.old.units unit) self.old) }
+        ensures err { OnErr result (self.new ≡ self.old) }
+    {
+        let place = place_of(unit);
+        let read = &self.units[place];
+        let (call, segment) = (read.call(), read.segment());
+        self.table.take(alloc, call, segment, entries, given)?;
+        let unit = &mut self.units[place];
+        unit.land();
+        Ok(())
+    }
+
+    /// The unit, which has read its last batch, has ended, and its segment is complete for its
+    /// call.
+    pub fn end(&mut self, unit: UnitId)
+        requires { is_one may_end (unit_in self.old.units unit) ≡ true }
+        ensures { self.new ≡ changes_unit unit (λ u. record u { work = ended u.work }) self.old }
+    {
+        let place = place_of(unit);
+        let unit = &mut self.units[place];
+        let (call, segment) = (unit.call(), unit.segment());
+        unit.end();
+        self.table.end(call, segment);
+    }
+}

@@ -1,0 +1,87 @@
+//! Calls are made, ask, and are answered.
+
+ghost use Rattle.std.specs.Prelude.{◌≡◌, ◌+◌, ◌++◌, true, false, map, length, nat_lt, None, Some, is_some, IfOk, OnErr, OnOk};
+ghost use Rattle.std.specs.List.{range_with_len};
+ghost use Rattle.grid_event.specs.declared.call_events.Ask as asks_of;
+ghost use Rattle.cluster_model.specs.Calls.{granted};
+ghost use Rattle.cluster_model.specs.State as states;
+ghost use Rattle.cluster_calls.specs.Calling.{any_open, call_in, changes_call, incomplete_in, is_one, new_call, puts_call, round_of, unit_made};
+
+use crate::call::Call;
+use crate::calls::Calls;
+use crate::row::Row;
+use crate::tally::Tally;
+use crate::unit::Unit;
+use grid_base::{CallId, NoMemory, NodeId, TopologyId};
+use grid_event::{Ask, Outcome, Request};
+use std::alloc::Global;
+
+impl Calls {
+    /// The call, which isn't there yet, is made. After want of memory all is as before.
+    pub fn invoke(
+        &mut self,
+        alloc: Global,
+        number: CallId,
+        originator: NodeId,
+        request: Request,
+    ) -> Result<(), NoMemory>
+        requires { call_in self.old number ≡ None }
+        ensures ok { OnOk result (self.new ≡ puts_call number (new_call originator request) self.old) }
+        ensures err { OnErr result (self.new ≡ self.old) }
+    {
+        let call = Call::new(alloc, originator, request)?;
+        let tally = Tally::new(alloc, self.segments)?;
+        self.table.insert(number, Row { call, tally })?;
+        Ok(())
+    }
+
+    /// The call, which has a round left and no open unit, asks for its incomplete segments by
+    /// units that are numbered on, under the topology `id`. After want of memory all is as before;
+    /// more units than 32 bits number are want of memory.
+    pub fn round(
+        &mut self,
+        alloc: Global,
+        number: CallId,
+        id: TopologyId,
+        asks: &[Ask],
+    ) -> Result<(), NoMemory>
+        requires left { is_one (λ call. nat_lt call.rounds (granted call)) (call_in self.old number) ≡ true }
+        requires closed { any_open self.old.units number ≡ false }
+        requires numbered { map (λ ask. ask.unit) asks.now ≡ range_with_len (length self.old.units + 1) (length asks.now) }
+        requires segments { map (λ ask. ask.segment) asks.now ≡ incomplete_in self.old number }
+        ensures ok { OnOk result (self.new ≡ round_of number id asks.now self.old) }
+        ensures err { OnErr result (self.new ≡ self.old) }
+    {
+        let units = self.units.as_slice().len();
+        if asks.len() >= u32::MAX as usize - units {
+            return Err(NoMemory);
+        }
+        let mut asked = asked_units(alloc, number, id, asks)?;
+        self.units.append(&mut asked)?;
+        self.table.ask(number, units as u32 + 1, asks);
+        Ok(())
+    }
+
+    /// The call is answered.
+    pub fn answer(&mut self, number: CallId, outcome: Outcome)
+        ensures { self.new ≡ changes_call number (λ call. record call { outcome = Some outcome }) self.old }
+    {
+        self.table.answer(number, outcome);
+    }
+}
+
+/// The units that the asks make. The only failure is that memory runs out.
+fn asked_units(
+    alloc: Global,
+    number: CallId,
+    id: TopologyId,
+    asks: &[Ask],
+) -> Result<Vec<Unit>, NoMemory>
+    ensures { IfOk result (λ units. units.items ≡ map (unit_made number id) asks.now) }
+{
+    let mut units = Vec::with_capacity(alloc, asks.len())?;
+    for ask in asks {
+        units.push(Unit::asked(alloc, ask.unit, number, ask.segment, ask.node, id))?;
+    }
+    Ok(units)
+}

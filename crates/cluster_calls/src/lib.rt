@@ -1,0 +1,16 @@
+//! The calls of a cluster and their units. Beside each call a tally of its units is kept up to
+//! date, so that no question about a call goes over all units.
+#![tactic(auto)]
+
+mod call;
+mod calls;
+mod row;
+mod table;
+mod taken;
+mod tally;
+mod unit;
+
+pub use call::Call;
+pub use calls::Calls;
+pub use taken::Taken;
+pub use unit::Unit;
