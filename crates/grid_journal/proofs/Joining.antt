@@ -43,11 +43,16 @@ row_step byte f place front out between_out after stands separated added =
     ∙ (append_assoc front (row ++ between byte place) (f place)
     ∙ ap (λ text. front ++ text) (sym (joined_more byte f place))))))
 
+-- the first text and the others behind a byte each are the row
+pub row_whole : {A : Type 0} (byte : ℕ) (f : A → List ℕ) (xs : List A) (first : A) (others : List A) (front out after : List ℕ)
+    → xs ≡ first ∷ others → out ≡ front ++ f first → after ≡ out ++ each_behind byte (map f others) → after ≡ front ++ join_with_byte byte (map f xs)
+row_whole byte f xs first others front out after split one rest =
+    rest ∙ (ap (λ text. text ++ each_behind byte (map f others)) one
+    ∙ (append_assoc front (f first) (each_behind byte (map f others))
+    ∙ ap (λ text. front ++ text) (sym (joined_from_first byte (f first) (map f others)) ∙ ap (λ ys. join_with_byte byte (map f ys)) (sym split))))
+
 -- the first ask and the others behind a comma each are the row of asks
 pub asks_whole : (asks : List Ask) (first : Ask) (others : List Ask) (front out after : List ℕ)
     → asks ≡ first ∷ others → out ≡ front ++ ask_text first → after ≡ out ++ each_behind 44 (map ask_text others) → after ≡ front ++ asks_text asks
 unfolding asks_text
-asks_whole asks first others front out after split one rest =
-    rest ∙ (ap (λ text. text ++ each_behind 44 (map ask_text others)) one
-    ∙ (append_assoc front (ask_text first) (each_behind 44 (map ask_text others))
-    ∙ ap (λ text. front ++ text) (sym (joined_from_first 44 (ask_text first) (map ask_text others)) ∙ ap asks_text (sym split))))
+asks_whole asks first others front out after split one rest = row_whole 44 ask_text asks first others front out after split one rest

@@ -7,3 +7,7 @@ pub mod FieldLaws
 pub mod CallLaws
 pub mod EventLaws
 pub mod Turns
+pub mod Trees
+pub mod FirstNodes
+pub mod Standings
+pub mod Telling

@@ -7,3 +7,5 @@ pub mod Kinds
 pub mod Fits
 pub mod Reading
 pub mod Answers
+pub mod Briefs
+pub mod Standing

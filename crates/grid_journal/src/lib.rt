@@ -2,9 +2,14 @@
 //! a journal.
 #![tactic(auto)]
 
+mod briefs;
 mod event_fault;
 mod events;
+mod json_briefs;
+mod key_map;
 mod kind;
+mod membership;
+mod numbered;
 mod outcomes;
 mod read_calls;
 mod read_events;
@@ -12,11 +17,14 @@ mod read_fields;
 mod read_topologies;
 mod read_values;
 mod reports;
+mod standing;
 mod topologies;
 mod words;
 
+pub use briefs::brief;
 pub use event_fault::EventFault;
 pub use events::print_event;
+pub use json_briefs::brief_json;
 pub use read_events::read_event;
 pub use reports::report;
 

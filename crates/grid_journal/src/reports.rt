@@ -44,7 +44,7 @@ fn add_head(out: &mut Bytes, config: &Config) -> Result<(), NoMemory>
 }
 
 /// Adds the settings.
-fn add_config(out: &mut Bytes, config: &Config) -> Result<(), NoMemory>
+pub(crate) fn add_config(out: &mut Bytes, config: &Config) -> Result<(), NoMemory>
     ensures { OnOk result (out.new.list ≡ out.old.list ++ config_text config.now) }
 {
     add_sizes(out, config)?;

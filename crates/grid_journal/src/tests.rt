@@ -1,9 +1,10 @@
-//! Texts of events, which are read and written again, and reports of journals of such events.
+//! Texts of events, which are read and written again, and reports and briefs of journals of such
+//! events.
 
 ghost use Rattle.std.specs.Prelude.{◌≡◌, true, IfOk, IsSome};
 ghost use Rattle.grid_event.specs.Configs.{is_config};
 
-use crate::{EventFault, print_event, read_event, report};
+use crate::{EventFault, brief, brief_json, print_event, read_event, report};
 use grid_event::{Config, Journal, Partition, ValueKind};
 use std::alloc::Global;
 use std::test::Fail;
@@ -153,6 +154,91 @@ grid nodes 3 segments 4 owners 2 partition plain values text chunk 1000
 end 0
 ";
 
+/// The events of a run with keys that were erased, that expired and that were lost with their
+/// segment, and with calls of each outcome.
+const MANY: &[&str] = &[
+    "write 0 0 0#a 1",
+    "write 0 0 0#b 2",
+    "write 0 0 0#c 3~5",
+    "write 0 0 0#d 3~6",
+    "write 0 0 1#a 1",
+    "erase 0 0 0#b",
+    "join 2",
+    "tick 5",
+    "round 6 1 1:0@0,2:1@1",
+    "take 1 1 0#a 1 1 1",
+    "take 2 1 1#a 1 2 1 1",
+    "depart 1",
+    "answer 9 originator_left",
+    "answer 1 value count 5",
+    "answer 2 value sum -3",
+    "answer 3 value best \"ab\"",
+    "answer 4 value best none",
+    "answer 5 value list 2 1 @0#a 1",
+    "answer 6 ended",
+    "answer 7 again 4 1",
+    "answer 8 segment_lost 3",
+    "announce 2 READ_OLD_WRITE_ALL 0;0 0;2",
+];
+
+const MANY_BRIEF: &str = "\
+grid nodes 2 segments 2 owners 1 partition grouped values int chunk 10
+call 1 value count 5
+call 2 value sum -3
+call 3 value best \"ab\"
+call 4 value best none
+call 5 value list 2 1 @0#a 1
+call 6 ended 3
+call 7 again 4 1
+call 8 segment_lost 3
+call 9 originator_left
+nodes 0,2
+topology READ_OLD_WRITE_ALL 0;0
+keys 2
+end
+";
+
+/// The brief of a journal without events.
+const EMPTY_BRIEF: &str = "\
+grid nodes 3 segments 4 owners 2 partition plain values text chunk 1000
+nodes 0,1,2
+topology NO_REBALANCE 0,1;1,2;2,0;0,1
+keys 0
+end
+";
+
+/// The events of a run of three calls, in which a node joins and another one departs.
+const THREE_CALLS: &[&str] = &[
+    "write 0 0 0#a 1",
+    "write 0 0 1#b 2",
+    "write 0 0 2#c 3",
+    "write 0 0 3#d 4",
+    "write 0 0 4#e 5",
+    "write 0 0 5#f 6",
+    "write 1 0 6#g -1",
+    "join 3",
+    "depart 2",
+    "announce 2 NO_REBALANCE 0,1;1,3;3,0;0,1;1,3;3,0;0,1;1,3",
+    "round 2 2 1:0@0,2:1@1",
+    "take 1 2 0#a 1 3#d 4 2 1 4",
+    "take 2 4 1#b 2 2#c 3 4#e 5 5#f 6 4 2 3 5 6",
+    "answer 2 ended",
+    "answer 3 value count 6",
+    "answer 1 value sum 21",
+];
+
+const THREE_CALLS_JSON: &str = "{\"calls\":[\
+{\"call\":1,\"outcome\":\"value sum 21\"},\
+{\"call\":2,\"outcome\":\"ended 6\"},\
+{\"call\":3,\"outcome\":\"value count 6\"}],\
+\"keys\":7,\"nodes\":[0,1,3],\
+\"topology\":\"NO_REBALANCE 0,1;1,3;3,0;0,1;1,3;3,0;0,1;1,3\"}
+";
+
+const EMPTY_JSON: &str = "{\"calls\":[],\"keys\":0,\"nodes\":[0,1,2],\
+\"topology\":\"NO_REBALANCE 0,1;1,2;2,0;0,1\"}
+";
+
 /// Whether the text is read, and written again as it was.
 fn is_read(alloc: Global, text: &str) -> Result<bool, Fail> {
     let event = read_event(alloc, text.as_bytes())?;
@@ -224,6 +310,51 @@ fn empty(alloc: Global) -> Result<Journal, Fail>
     Ok(journal)
 }
 
+/// Puts the events of the texts into the journal.
+fn put_all(alloc: Global, journal: &mut Journal, texts: &[&str]) -> Result<(), Fail>
+    requires { IsSome journal.old.history.config }
+    ensures { IsSome journal.new.history.config }
+{
+    for text in texts {
+        put(alloc, journal, text)?;
+    }
+    Ok(())
+}
+
+/// The journal of a run with keys that are gone, and with calls of each outcome.
+fn many(alloc: Global) -> Result<Journal, Fail>
+    ensures { IfOk result (λ journal. IsSome journal.history.config) }
+{
+    let mut journal = Journal::new(alloc);
+    journal.start(Config {
+        nodes: 2,
+        segments: 2,
+        owners: 1,
+        partition: Partition::Grouped,
+        values: ValueKind::Int,
+        chunk: 10,
+    });
+    put_all(alloc, &mut journal, MANY)?;
+    Ok(journal)
+}
+
+/// The journal of a run of three calls.
+fn three_calls(alloc: Global) -> Result<Journal, Fail>
+    ensures { IfOk result (λ journal. IsSome journal.history.config) }
+{
+    let mut journal = Journal::new(alloc);
+    journal.start(Config {
+        nodes: 3,
+        segments: 8,
+        owners: 2,
+        partition: Partition::Grouped,
+        values: ValueKind::Int,
+        chunk: 2,
+    });
+    put_all(alloc, &mut journal, THREE_CALLS)?;
+    Ok(journal)
+}
+
 #[test]
 fn texts_are_read_and_written(rt: HostRuntime) -> Result<(), Fail> {
     let alloc = rt.alloc();
@@ -249,5 +380,25 @@ fn reports(rt: HostRuntime) -> Result<(), Fail> {
     assert!(rt; out.as_slice() == JOINING.as_bytes());
     let out = report(alloc, &empty(alloc)?)?;
     assert!(rt; out.as_slice() == EMPTY.as_bytes());
+    Ok(())
+}
+
+#[test]
+fn briefs(rt: HostRuntime) -> Result<(), Fail> {
+    let alloc = rt.alloc();
+    let out = brief(alloc, &many(alloc)?)?;
+    assert!(rt; out.as_slice() == MANY_BRIEF.as_bytes());
+    let out = brief(alloc, &empty(alloc)?)?;
+    assert!(rt; out.as_slice() == EMPTY_BRIEF.as_bytes());
+    Ok(())
+}
+
+#[test]
+fn json_briefs(rt: HostRuntime) -> Result<(), Fail> {
+    let alloc = rt.alloc();
+    let out = brief_json(alloc, &three_calls(alloc)?)?;
+    assert!(rt; out.as_slice() == THREE_CALLS_JSON.as_bytes());
+    let out = brief_json(alloc, &empty(alloc)?)?;
+    assert!(rt; out.as_slice() == EMPTY_JSON.as_bytes());
     Ok(())
 }

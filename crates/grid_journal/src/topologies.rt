@@ -36,7 +36,7 @@ fn add_pending(out: &mut Bytes, topology: &Topology) -> Result<(), NoMemory>
 }
 
 /// Adds the word of a phase.
-fn add_phase(out: &mut Bytes, phase: Phase) -> Result<(), NoMemory>
+pub(crate) fn add_phase(out: &mut Bytes, phase: Phase) -> Result<(), NoMemory>
     ensures { OnOk result (out.new.list ≡ out.old.list ++ phase_text phase) }
 {
     match phase {

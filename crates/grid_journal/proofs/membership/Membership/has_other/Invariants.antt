@@ -1,0 +1,10 @@
+use Rattle.std.proofs.Common.{◌≡◌, not, ◌&&◌, ◌==◌, drop}
+use Rattle.std.specs.List.{list_any}
+use Rattle.grid_journal.specs.Standing.{stands_live}
+use Rattle.grid_journal.proofs.membership.Membership.has_other.Given as goal
+
+-- no owner so far is one
+abbrev pub invariant-loop-place : goal.invariant-loop-place
+invariant-loop-place l =
+    list_any (λ other. stands_live l.self other && not (other == l.node)) (drop l.place l.owners)
+    ≡ list_any (λ other. stands_live l.self other && not (other == l.node)) l.owners
