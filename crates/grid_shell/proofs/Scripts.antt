@@ -15,23 +15,16 @@ use Rattle.grid_script.specs.declared.script.Script.{Script}
 use Rattle.grid_script.specs.declared.script.Script.TheVariants as scripts
 use Rattle.grid_script.specs.declared.script_fault.ScriptFault.{ScriptFault}
 use Rattle.grid_script.specs.declared.script_kind.ScriptKind.TheVariants as kinds
-use Rattle.grid_shell.specs.Served.{is_int, is_served, is_served_line, is_served_script, is_told_yet}
-use Rattle.grid_shell.specs.declared.asks.Form.{Form}
+use Rattle.grid_shell.specs.Served.{is_int, is_served, is_served_line}
 
 first_of : (a b : Bool) → (a && b) ≡ true → a ≡ true
 first_of true b h = refl
 first_of false b h = h
 
-second_of : (a b : Bool) → (a && b) ≡ true → b ≡ true
-second_of true b h = h
-second_of false b h = absurd (cc)
-
 -- the core serves its settings
-pub served_settings : (form : Form) (script : Steps) → is_served form script ≡ true → core.is_served script.config ≡ true
-unfolding is_served_script
-served_settings form script h =
-    first_of (core.is_served script.config) (is_int script.config.values && list_all is_served_line script.lines)
-    (second_of (is_told_yet form) (is_served_script script) h)
+pub served_settings : (script : Steps) → is_served script ≡ true → core.is_served script.config ≡ true
+unfolding is_served
+served_settings script h = first_of (core.is_served script.config) (is_int script.config.values && list_all is_served_line script.lines) h
 
 -- a script that was read is the one for which the bytes stand
 pub was_read : {A : Type 0} (r : Result A ScriptFault) (x : A) (told : Told A) → r ≡ Ok x → Answers r told → told ≡ Ok x

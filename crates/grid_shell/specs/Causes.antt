@@ -45,7 +45,7 @@ Had _ left Holds = ⊥
 
 -- a script was asked for that can be run, and of which this holds
 abbrev pub Ran : Option Asked → Option (List ℕ) → (Form → Steps → Type 0) → Type 0
-Ran asked left Holds = Had asked left (λ form script. (is_served form script ≡ true) × Holds form script)
+Ran asked left Holds = Had asked left (λ form script. (is_served script ≡ true) × Holds form script)
 
 -- the history is that of the whole stepped run of the script
 abbrev pub IsWholeRun : History → Steps → Type 0
@@ -68,17 +68,17 @@ abbrev pub HadFault : Option (List ℕ) → ℕ → Reason → Type 0
 HadFault left line reason = (bytes : List ℕ) × IsAll left bytes × (script_of kinds.Step bytes ≡ Err (line, reason))
 
 -- why a script of the source is refused: it is too long, the line is at fault, or it can't be run yet
-abbrev pub IsSourceRefusal : Form → Option (List ℕ) → Option (List ℕ) → ℕ → Reason → Type 0
-IsSourceRefusal form before after line reason =
+abbrev pub IsSourceRefusal : Option (List ℕ) → Option (List ℕ) → ℕ → Reason → Type 0
+IsSourceRefusal before after line reason =
     ((line ≡ 0) × (reason ≡ TooLong) × GaveTooMany before after)
     ⊎ HadFault before line reason
-    ⊎ ((line ≡ 0) × (reason ≡ NotYet) × HadScript before (λ script. is_served form script ≡ false))
+    ⊎ ((line ≡ 0) × (reason ≡ NotYet) × HadScript before (λ script. is_served script ≡ false))
 
 -- why what was asked for is refused; a script of the generator may be one that can't be run yet
 abbrev pub IsRefusal : Option Asked → Option (List ℕ) → Option (List ℕ) → ℕ → Reason → Type 0
-IsRefusal (Some (Step form)) before after line reason = IsSourceRefusal form before after line reason
+IsRefusal (Some (Step form)) before after line reason = IsSourceRefusal before after line reason
 IsRefusal (Some (Gen form seed keys steps)) before after line reason =
-    (line ≡ 0) × (reason ≡ NotYet) × (is_served form (generated seed keys steps) ≡ false)
+    (line ≡ 0) × (reason ≡ NotYet) × (is_served (generated seed keys steps) ≡ false)
 IsRefusal _ before after line reason = ⊥
 
 -- the source has a script left of which this holds
@@ -88,11 +88,11 @@ HasScript left Holds =
     × (script_of kinds.Step bytes ≡ Ok (scripts.Step script)) × Holds script
 
 -- the script can be run, and its stepped run comes to its end
-abbrev pub Ends : Form → Steps → Type 0
-Ends form script = (is_served form script ≡ true) × ((run_of script).stopped ≡ None)
+abbrev pub Ends : Steps → Type 0
+Ends script = (is_served script ≡ true) × ((run_of script).stopped ≡ None)
 
 -- a script was asked for that can be run, and whose stepped run comes to its end
 abbrev pub IsServable : Option Asked → Option (List ℕ) → Type 0
-IsServable (Some (Step form)) left = HasScript left (Ends form)
-IsServable (Some (Gen form seed keys steps)) left = Ends form (generated seed keys steps)
+IsServable (Some (Step form)) left = HasScript left Ends
+IsServable (Some (Gen form seed keys steps)) left = Ends (generated seed keys steps)
 IsServable _ left = ⊥

@@ -1,14 +1,18 @@
 -- What is written: the run in the form that was asked for, or a line that says why it isn't.
 use Rattle.std.specs.Prelude.{ℕ, List, [], ◌∷◌, ◌++◌, codes, decimal}
 use Rattle.grid_event.specs.Histories.{History}
+use Rattle.grid_journal.specs.Briefs.{brief_json_text, brief_text}
 use Rattle.grid_journal.specs.Reports.{report_text}
 use Rattle.grid_script.specs.declared.reason.Reason.{Reason}
 use Rattle.grid_script.specs.declared.reason.Reason.TheVariants.{OverLimit, Syntax, OtherKind, NodeUnknown, NodeGone, NodeTwice, LastNode, CallUnknown, CallTwice, KeyUngrouped, Mistyped, TooLong, NotYet}
 use Rattle.grid_shell.specs.declared.asks.Form.{Form}
+use Rattle.grid_shell.specs.declared.asks.Form.TheVariants.{Full, Brief, Json}
 
--- a history in a form; its report is the only one yet
+-- a history in a form
 abbrev pub text_of : Form → History → List ℕ
-text_of form history = report_text history
+text_of Full history = report_text history
+text_of Brief history = brief_text history
+text_of Json history = brief_json_text history
 
 abbrev pub usage_line : List ℕ
 usage_line =

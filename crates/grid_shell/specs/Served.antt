@@ -1,4 +1,4 @@
--- Which scripts can be run yet, and told in which forms.
+-- Which scripts can be run yet.
 use Rattle.std.specs.Prelude.{ℕ, Bool, true, false, ◌==◌, ◌&&◌, is_none}
 use Rattle.std.specs.List.{list_all}
 use Rattle.cluster_core.specs.Served as core
@@ -12,8 +12,6 @@ use Rattle.grid_script.specs.Scripts.{Steps}
 use Rattle.grid_script.specs.declared.order.Order.{Order}
 use Rattle.grid_script.specs.declared.order.Order.TheVariants.{One, Settle, Finish}
 use Rattle.grid_script.specs.declared.step_line.StepLine.{StepLine}
-use Rattle.grid_shell.specs.declared.asks.Form.{Form}
-use Rattle.grid_shell.specs.declared.asks.Form.TheVariants.{Full, Brief, Json}
 
 abbrev pub is_int : ValueKind → Bool
 is_int Int = true
@@ -38,15 +36,5 @@ abbrev pub is_served_line : StepLine → Bool
 is_served_line line = is_served_order line.order
 
 -- one node, one segment for all keys, ints, and no lines but these
-unfoldable pub is_served_script : Steps → Bool
-is_served_script script = core.is_served script.config && (is_int script.config.values && list_all is_served_line script.lines)
-
--- the forms in which a run can be told yet
-abbrev pub is_told_yet : Form → Bool
-is_told_yet Full = true
-is_told_yet Brief = false
-is_told_yet Json = false
-
--- the script can be run yet, and the run told in that form
-abbrev pub is_served : Form → Steps → Bool
-is_served form script = is_told_yet form && is_served_script script
+unfoldable pub is_served : Steps → Bool
+is_served script = core.is_served script.config && (is_int script.config.values && list_all is_served_line script.lines)

@@ -32,25 +32,25 @@ pub(crate) fn run_script<K: Sink>(
 ) -> Status
     requires { journal.old.history ≡ blank }
     ensures ending { (result ≡ Status.ScriptRefused) ⊎ IsEnding result }
-    ensures refused { result ≡ Status.ScriptRefused → (is_served form script.now ≡ false)
+    ensures refused { result ≡ Status.ScriptRefused → (is_served script.now ≡ false)
         × Wrote (K.told sink.old) (K.told sink.new) (K.faults sink.old) (K.faults sink.new) (refused_line 0 NotYet) }
-    ensures full { result ≡ Status.Full → (line : ℕ) × ((is_served form script.now ≡ true) × IsRunTo line journal.new.history script.now)
+    ensures full { result ≡ Status.Full → (line : ℕ) × ((is_served script.now ≡ true) × IsRunTo line journal.new.history script.now)
         × Wrote (K.told sink.old) (K.told sink.new) (K.faults sink.old) (K.faults sink.new) (full_line line) }
     ensures write_fault { result ≡ Status.WriteFault →
-        ((is_served form script.now ≡ true) × IsWholeRun journal.new.history script.now
+        ((is_served script.now ≡ true) × IsWholeRun journal.new.history script.now
         × AppendsPart (K.told sink.old) (K.told sink.new) (text_of form journal.new.history))
         × Rose (K.faults sink.old) (K.faults sink.new) }
     ensures done { result ≡ Status.Done →
-        (is_served form script.now ≡ true) × IsWholeRun journal.new.history script.now
+        (is_served script.now ≡ true) × IsWholeRun journal.new.history script.now
         × Appends (K.told sink.old) (K.told sink.new) (text_of form journal.new.history) }
     ensures no_memory { result ≡ Status.NoMemory → (journal.new.history ≡ blank)
-        ⊎ ((is_served form script.now ≡ true) × IsRunFront journal.new.history script.now) }
+        ⊎ ((is_served script.now ≡ true) × IsRunFront journal.new.history script.now) }
     ensures run { is_run journal.new.history ≡ true }
     ensures unused { result ≡ Status.ScriptRefused → journal.new.history ≡ blank }
     ensures unwritten { result ≡ Status.NoMemory → sink.new ≡ sink.old }
     ensures writes_counted { K.faults sink.old ≤ K.faults sink.new }
 {
-    if !is_served(form, script) {
+    if !is_served(script) {
         return write_refused(alloc, sink, 0, Reason::NotYet);
     }
     run_served(alloc, form, script, sink, journal)
@@ -65,7 +65,7 @@ fn run_served<K: Sink>(
     journal: &mut Journal,
 ) -> Status
     requires blank { journal.old.history ≡ blank }
-    requires served { is_served form script.now ≡ true }
+    requires served { is_served script.now ≡ true }
     ensures ending { IsEnding result }
     ensures full { result ≡ Status.Full → (line : ℕ) × IsRunTo line journal.new.history script.now
         × Wrote (K.told sink.old) (K.told sink.new) (K.faults sink.old) (K.faults sink.new) (full_line line) }

@@ -3,40 +3,18 @@
 ghost use Rattle.std.specs.Prelude.{◌≡◌};
 ghost use Rattle.std.specs.List.{list_all};
 ghost use Rattle.fixed_topology.specs.Calls.{is_count};
-ghost use Rattle.grid_shell.specs.Served.{is_int, is_served, is_served_command, is_served_line, is_served_request, is_served_script, is_told_yet};
+ghost use Rattle.grid_shell.specs.Served.{is_int, is_served, is_served_command, is_served_line, is_served_order, is_served_request};
 
-use crate::asks::Form;
 use cluster_core::Core;
 use grid_event::{Command, End, Guarantee, Pipeline, Request, ValueKind};
 use grid_script::{Order, StepLine, StepScript};
 
-/// Whether the script can be run yet, and the run told in this form: the report. It takes no memory.
-pub(crate) fn is_served(form: Form, script: &StepScript) -> bool
-    ensures { result ≡ is_served form script.now }
-{
-    if !is_told_yet(form) {
-        return false;
-    }
-    is_served_script(script)
-}
-
-/// Whether a run can be told in the form yet.
-fn is_told_yet(form: Form) -> bool
-    ensures { result ≡ is_told_yet form }
-{
-    match form {
-        Form::Full => true,
-        Form::Brief => false,
-        Form::Json => false,
-    }
-}
-
 /// Whether the script can be run yet: one node, one segment for all keys, ints, and no lines but
 /// writes at node 0 that stand for good, calls of node 0 that count the entries exactly once, and
 /// lines that finish a call. It takes no memory.
-#[tactic(auto, unfolding(crate::specs::Served::is_served_script))]
-fn is_served_script(script: &StepScript) -> bool
-    ensures { result ≡ is_served_script script.now }
+#[tactic(auto, unfolding(crate::specs::Served::is_served))]
+pub(crate) fn is_served(script: &StepScript) -> bool
+    ensures { result ≡ is_served script.now }
 {
     let config = script.config;
     if !Core::serves(&config) {

@@ -35,21 +35,21 @@ pub(crate) fn run_source<S: Source, K: Sink>(
     ensures answer { IsAnswer result }
     ensures read_fault { result ≡ Status.ReadFault → Rose (S.faults source.old) (S.faults source.new) }
     ensures refused { result ≡ Status.ScriptRefused → (line : ℕ) × (reason : Reason)
-        × IsSourceRefusal form (S.left source.old) (S.left source.new) line reason
+        × IsSourceRefusal (S.left source.old) (S.left source.new) line reason
         × Wrote (K.told sink.old) (K.told sink.new) (K.faults sink.old) (K.faults sink.new) (refused_line line reason) }
     ensures full { result ≡ Status.Full → (line : ℕ)
-        × HadScript (S.left source.old) (λ script. (is_served form script ≡ true) × IsRunTo line journal.new.history script)
+        × HadScript (S.left source.old) (λ script. (is_served script ≡ true) × IsRunTo line journal.new.history script)
         × Wrote (K.told sink.old) (K.told sink.new) (K.faults sink.old) (K.faults sink.new) (full_line line) }
     ensures write_fault { result ≡ Status.WriteFault →
-        HadScript (S.left source.old) (λ script. (is_served form script ≡ true) × IsWholeRun journal.new.history script
+        HadScript (S.left source.old) (λ script. (is_served script ≡ true) × IsWholeRun journal.new.history script
         × AppendsPart (K.told sink.old) (K.told sink.new) (text_of form journal.new.history))
         × Rose (K.faults sink.old) (K.faults sink.new) }
     ensures done { result ≡ Status.Done →
-        HadScript (S.left source.old) (λ script. (is_served form script ≡ true) × IsWholeRun journal.new.history script
+        HadScript (S.left source.old) (λ script. (is_served script ≡ true) × IsWholeRun journal.new.history script
         × Appends (K.told sink.old) (K.told sink.new) (text_of form journal.new.history)) }
     ensures no_memory { result ≡ Status.NoMemory → (journal.new.history ≡ blank)
-        ⊎ HadScript (S.left source.old) (λ script. (is_served form script ≡ true) × IsRunFront journal.new.history script) }
-    ensures complete { HasScript (S.left source.old) (Ends form)
+        ⊎ HadScript (S.left source.old) (λ script. (is_served script ≡ true) × IsRunFront journal.new.history script) }
+    ensures complete { HasScript (S.left source.old) Ends
         → (Rose (S.faults source.old) (S.faults source.new) → ⊥)
         → (Rose (K.faults sink.old) (K.faults sink.new) → ⊥)
         → (result ≡ Status.Done) ⊎ (result ≡ Status.NoMemory) }
@@ -91,20 +91,20 @@ pub(crate) fn run_generated<K: Sink>(
 ) -> Status
     requires { journal.old.history ≡ blank }
     ensures ending { (result ≡ Status.ScriptRefused) ⊎ IsEnding result }
-    ensures refused { result ≡ Status.ScriptRefused → (is_served form (generated seed keys steps) ≡ false)
+    ensures refused { result ≡ Status.ScriptRefused → (is_served (generated seed keys steps) ≡ false)
         × Wrote (K.told sink.old) (K.told sink.new) (K.faults sink.old) (K.faults sink.new) (refused_line 0 NotYet) }
     ensures full { result ≡ Status.Full → (line : ℕ)
-        × ((is_served form (generated seed keys steps) ≡ true) × IsRunTo line journal.new.history (generated seed keys steps))
+        × ((is_served (generated seed keys steps) ≡ true) × IsRunTo line journal.new.history (generated seed keys steps))
         × Wrote (K.told sink.old) (K.told sink.new) (K.faults sink.old) (K.faults sink.new) (full_line line) }
     ensures write_fault { result ≡ Status.WriteFault →
-        ((is_served form (generated seed keys steps) ≡ true) × IsWholeRun journal.new.history (generated seed keys steps)
+        ((is_served (generated seed keys steps) ≡ true) × IsWholeRun journal.new.history (generated seed keys steps)
         × AppendsPart (K.told sink.old) (K.told sink.new) (text_of form journal.new.history))
         × Rose (K.faults sink.old) (K.faults sink.new) }
     ensures done { result ≡ Status.Done →
-        (is_served form (generated seed keys steps) ≡ true) × IsWholeRun journal.new.history (generated seed keys steps)
+        (is_served (generated seed keys steps) ≡ true) × IsWholeRun journal.new.history (generated seed keys steps)
         × Appends (K.told sink.old) (K.told sink.new) (text_of form journal.new.history) }
     ensures no_memory { result ≡ Status.NoMemory → (journal.new.history ≡ blank)
-        ⊎ ((is_served form (generated seed keys steps) ≡ true) × IsRunFront journal.new.history (generated seed keys steps)) }
+        ⊎ ((is_served (generated seed keys steps) ≡ true) × IsRunFront journal.new.history (generated seed keys steps)) }
     ensures run { is_run journal.new.history ≡ true }
     ensures unused { result ≡ Status.ScriptRefused → journal.new.history ≡ blank }
     ensures unwritten { result ≡ Status.NoMemory → sink.new ≡ sink.old }

@@ -132,6 +132,19 @@ grid nodes 1 segments 1 owners 1 partition plain values int chunk 2
 end 8
 ";
 
+const FILLED_BRIEF: &[u8] = b"\
+grid nodes 1 segments 1 owners 1 partition plain values int chunk 2
+call 1 value count 2
+nodes 0
+topology NO_REBALANCE 0
+keys 2
+end
+";
+
+const FILLED_JSON: &[u8] = b"\
+{\"calls\":[{\"call\":1,\"outcome\":\"value count 2\"}],\"keys\":2,\"nodes\":[0],\"topology\":\"NO_REBALANCE 0\"}
+";
+
 const USAGE: &[u8] = b"\
 usage: grid step | grid live [--workers N] | grid gen SEED [--keys N] [--steps N]; each with [--form full|brief|json]
 ";
@@ -163,14 +176,14 @@ fn reports(rt: HostRuntime) -> Result<(), Fail> {
 }
 
 #[test]
-fn forms_that_come_later(rt: HostRuntime) -> Result<(), Fail> {
+fn briefs(rt: HostRuntime) -> Result<(), Fail> {
     let alloc = rt.alloc();
     let end = told(alloc, b"--form=brief", FILLED)?;
-    assert_eq!(rt; end.status, Status::ScriptRefused);
-    assert_eq!(rt; end.written.as_slice(), b"refused 0 NotYet\n".as_slice());
+    assert_eq!(rt; end.status, Status::Done);
+    assert_eq!(rt; end.written.as_slice(), FILLED_BRIEF);
     let end = told(alloc, b"--form=json", FILLED)?;
-    assert_eq!(rt; end.status, Status::ScriptRefused);
-    assert_eq!(rt; end.written.as_slice(), b"refused 0 NotYet\n".as_slice());
+    assert_eq!(rt; end.status, Status::Done);
+    assert_eq!(rt; end.written.as_slice(), FILLED_JSON);
     Ok(())
 }
 

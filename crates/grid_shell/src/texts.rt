@@ -6,19 +6,21 @@ ghost use Rattle.grid_shell.specs.Lines.{full_line, reason_text, refused_line, t
 use crate::asks::Form;
 use grid_base::{Bytes, NoMemory};
 use grid_event::Journal;
-use grid_journal::report;
+use grid_journal::{brief, brief_json, report};
 use grid_script::Reason;
 use itoa::Buffer;
 use std::alloc::Global;
 
-/// The run of a journal in a form, of which the report is the only one yet. The only failure is
-/// that memory runs out.
+/// The run of a journal in a form. The only failure is that memory runs out.
 pub(crate) fn text(alloc: Global, form: Form, journal: &Journal) -> Result<Bytes, NoMemory>
     requires { IsSome journal.now.history.config }
     ensures { IfOk result (λ out. out.list ≡ text_of form journal.now.history) }
 {
-    let _ = form;
-    report(alloc, journal)
+    match form {
+        Form::Full => report(alloc, journal),
+        Form::Brief => brief(alloc, journal),
+        Form::Json => brief_json(alloc, journal),
+    }
 }
 
 /// What is written where the words are none that are served.
