@@ -3,5 +3,5 @@ pub mod Pipelines
 pub mod CallSets
 pub mod Following
 pub mod Numbering
-pub mod Keeping
+pub mod Living
 pub mod Sessions

@@ -5,6 +5,7 @@ pub mod Fields
 pub mod Words
 pub mod Rules
 pub mod Sets
+pub mod LiveRules
 pub mod StepLines
 pub mod LiveLines
 pub mod Lines

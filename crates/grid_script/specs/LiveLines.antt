@@ -1,5 +1,5 @@
 -- The lines of a script of a live run: a definition for each kind of line, in the order in which its faults are told.
-use Rattle.std.specs.Prelude.{◌≡◌, ℕ, ◌+◌, ◌≤◌, Bool, true, false, ◌&&◌, ◌==◌, nat_le, nat_lt, List, [], ◌∷◌, ◌++◌, length, Ok, Err, if◌then◌else◌}
+use Rattle.std.specs.Prelude.{◌≡◌, ℕ, ◌+◌, ◌≤◌, ◌<◌, Bool, true, false, ◌&&◌, ◌==◌, nat_le, nat_lt, List, [], ◌∷◌, ◌++◌, length, Ok, Err, if◌then◌else◌}
 use Rattle.std.specs.FinSet as set
 use Rattle.grid_base.specs.declared.entry.Entry.{Entry}
 use Rattle.grid_base.specs.declared.limits.TheConstants.{LAST_CALL}
@@ -9,7 +9,6 @@ use Rattle.grid_script.specs.declared.deed.Deed.TheVariants as deed
 use Rattle.grid_script.specs.declared.live_known.LiveKnown.{LiveKnown}
 use Rattle.grid_script.specs.declared.live_told.LiveTold.{LiveTold}
 use Rattle.grid_script.specs.declared.live_told.LiveTold.TheVariants.{Opens, Changes, Loads, Does}
-use Rattle.grid_script.specs.declared.member.Member.{Member}
 use Rattle.grid_script.specs.declared.member.Member.TheVariants as member
 use Rattle.grid_script.specs.declared.members.Members.{Members}
 use Rattle.grid_script.specs.declared.reason.Reason.TheVariants.{NodeUnknown, OverLimit, Syntax}
@@ -20,9 +19,9 @@ use Rattle.grid_script.specs.declared.words.LiveWord.{LiveWord}
 use Rattle.grid_script.specs.declared.words.LiveWord.TheVariants as live
 use Rattle.grid_script.specs.Fields.{end_at, key_field, last_key, last_number, number_field}
 use Rattle.grid_script.specs.Judging.{Judged, ◌>>=◌, needs, spelt}
-use Rattle.grid_script.specs.Rules.{call_within, has_kind, has_segment, is_new, is_typed, may_depart, may_join, node_within, request_within, with_departed, with_joined}
-use Rattle.grid_script.specs.Scripts.{are_numbered}
-use Rattle.grid_script.specs.Sets.{Calls}
+use Rattle.grid_script.specs.LiveRules.{IsDeedOf, IsEntryOf, IsLive, IsNew, IsPossible, calls_behind, calls_with, deeds_of, members_behind, members_with}
+use Rattle.grid_script.specs.Rules.{call_within, first_members, has_kind, has_segment, is_new, is_typed, may_depart, may_join, node_within, request_within}
+use Rattle.grid_script.specs.Scripts.{Lives}
 use Rattle.grid_script.specs.StepLines.{asked_in}
 use Rattle.grid_script.specs.Words.{live_word_at}
 
@@ -175,16 +174,6 @@ told_in known s = do
   word ← spelt (live_word_at s)
   live_fields_in known word.0 word.1
 
--- the members behind a change
-abbrev pub members_with : Members → Member → Members
-members_with members (member.Join node) = with_joined members node
-members_with members (member.Depart node) = with_departed members node
-
--- the calls that were made, behind a deed
-abbrev pub calls_with : Calls → Deed → Calls
-calls_with calls (deed.Call call request) = set.insert calls call
-calls_with calls _ = calls
-
 -- the section with one more deed
 abbrev pub section_with : Section → Deed → Section
 section_with (section.Session session) deed = section.Session (record { number = session.number; home = session.home; orders = session.orders ++ deed ∷ [] })
@@ -241,28 +230,48 @@ with_told known (Does done) = record {
   sessions = known.sessions;
 }
 
+-- the script that is known so far
+abbrev pub lives_of : LiveKnown → Lives
+lives_of known = record {
+  config = known.config;
+  load = known.load;
+  changes = known.changes;
+  sessions = all_sessions known.sessions known.section;
+}
+
 -- the call of a deed is in its limits
 abbrev pub IsNotedDeed : Deed → Type 0
 IsNotedDeed (deed.Call call request) = call ≤ LAST_CALL
 IsNotedDeed _ = Unit {0}
 
--- the node of a change is in its limits
-abbrev pub IsNotedMember : Member → Type 0
-IsNotedMember (member.Join node) = node ≤ 15
-IsNotedMember _ = Unit {0}
+-- a session that begins has the next number, of 16 at most, a first node as its home, and no deeds yet
+pub record IsNextSession (known : LiveKnown) (session : Session) : Type 0 where
+  pub next : session.number ≡ sessions_begun known.sessions known.section + 1
+  pub few : session.number ≤ 16
+  pub home : session.home < known.config.nodes
+  pub empty : session.orders ≡ []
 
--- a session that begins has the next number
-abbrev pub IsNextSection : ℕ → Section → Type 0
-IsNextSection begun (section.Session session) = session.number ≡ begun + 1
-IsNextSection begun _ = Unit {0}
+-- a section that begins is none of the sessions, or the next one
+abbrev pub IsNextSection : LiveKnown → Section → Type 0
+IsNextSection known (section.Session session) = IsNextSession known session
+IsNextSection known _ = Unit {0}
 
--- the numbers that are noted of what a line tells are in their limits
-abbrev pub AreNoted : LiveKnown → LiveTold → Type 0
-AreNoted known (Opens next) = IsNextSection (sessions_begun known.sessions known.section) next
-AreNoted known (Changes change) = IsNotedMember change
-AreNoted known (Loads it) = Unit {0}
-AreNoted known (Does done) = IsNotedDeed done
+-- a deed of a session keeps the rules
+pub record IsNextDeed (known : LiveKnown) (deed : Deed) : Type 0 where
+  pub place : is_session known.section ≡ true
+  pub limits : IsNotedDeed deed
+  pub rules : IsDeedOf known.config deed
+  pub unused : IsNew known.calls deed
 
--- the sessions that were begun have the numbers from 1 on
-abbrev pub IsNumbered : LiveKnown → Type 0
-IsNumbered known = are_numbered 1 (all_sessions known.sessions known.section) ≡ true
+-- what a line tells keeps the rules
+abbrev pub MayTell : LiveKnown → LiveTold → Type 0
+MayTell known (Opens next) = IsNextSection known next
+MayTell known (Changes change) = IsPossible known.members change
+MayTell known (Loads it) = IsEntryOf known.config it
+MayTell known (Does done) = IsNextDeed known done
+
+-- the script that is known so far keeps the rules, and the members and the calls are those of its lines
+pub record IsSoFar (known : LiveKnown) : Type 0 where
+  pub rules : IsLive (lives_of known)
+  pub members : known.members ≡ members_behind (first_members known.config.nodes) known.changes
+  pub calls : known.calls ≡ calls_behind set.empty (deeds_of (lives_of known).sessions)

@@ -1,12 +1,10 @@
 -- The script that bytes stand for, or the first line at fault with the first reason that applies to it.
-use Rattle.std.specs.Prelude.{ℕ, zero, suc, nat_lt, List, [], ◌∷◌, length, Ok, Err, if◌then◌else◌}
-use Rattle.std.specs.Ordering.{nat_cmp}
+use Rattle.std.specs.Prelude.{ℕ, suc, nat_lt, List, [], ◌∷◌, length, Ok, Err, if◌then◌else◌}
 use Rattle.std.specs.FinSet as set
 use Rattle.grid_base.specs.declared.limits.TheConstants.{LONGEST_SCRIPT}
 use Rattle.grid_event.specs.declared.config.Config.{Config}
 use Rattle.grid_script.specs.declared.known.Known.{Known}
 use Rattle.grid_script.specs.declared.live_known.LiveKnown.{LiveKnown}
-use Rattle.grid_script.specs.declared.members.Members.{Members}
 use Rattle.grid_script.specs.declared.reason.Reason.TheVariants.{TooLong}
 use Rattle.grid_script.specs.declared.script.Script.{Script}
 use Rattle.grid_script.specs.declared.script.Script.TheVariants as script
@@ -15,18 +13,10 @@ use Rattle.grid_script.specs.declared.script_kind.ScriptKind.TheVariants as kind
 use Rattle.grid_script.specs.declared.section.Section.TheVariants.{Start}
 use Rattle.grid_script.specs.Judging.{Judged, Told, ◌>>=◌, on_line}
 use Rattle.grid_script.specs.Lines.{Line, is_whole, lines_of, says_nothing}
-use Rattle.grid_script.specs.LiveLines.{all_sessions, told_in, with_told}
+use Rattle.grid_script.specs.LiveLines.{lives_of, told_in, with_told}
+use Rattle.grid_script.specs.Rules.{first_members}
 use Rattle.grid_script.specs.Settings.{Behind, head_of}
 use Rattle.grid_script.specs.StepLines.{order_in, with_order}
-
--- the nodes from 0 on, so many
-abbrev pub first_nodes : ℕ → set.FinSet nat_cmp
-first_nodes zero = set.empty
-first_nodes (suc n) = set.insert (first_nodes n) n
-
--- the first members
-abbrev pub first_members : ℕ → Members
-first_members n = record { ever = first_nodes n; live = first_nodes n }
 
 -- what is known behind a line of a stepped run
 unfoldable pub step_after : Known → ℕ → Line → Judged Known
@@ -62,12 +52,7 @@ live_start config = record {
 -- the script of the lines behind the head
 unfoldable pub body_of : ScriptKind → Behind Config → Told Script
 body_of kind.Step head = after_all step_after (step_start head.it) head.next head.lines >>= (λ known. Ok (script.Step (record { config = known.config; lines = known.lines })))
-body_of kind.Live head = after_all live_after (live_start head.it) head.next head.lines >>= (λ known. Ok (script.Live (record {
-  config = known.config;
-  load = known.load;
-  changes = known.changes;
-  sessions = all_sessions known.sessions known.section;
-})))
+body_of kind.Live head = after_all live_after (live_start head.it) head.next head.lines >>= (λ known. Ok (script.Live (lives_of known)))
 
 -- the script of a kind for which bytes stand, or the line at fault and its reason; of too many bytes that is line 0
 unfoldable pub script_of : ScriptKind → List ℕ → Told Script

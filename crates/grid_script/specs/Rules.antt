@@ -1,5 +1,6 @@
 -- The rules that a line has to keep, each with the reason why a line is refused that breaks it.
-use Rattle.std.specs.Prelude.{ℕ, ◌+◌, Bool, true, false, ◌&&◌, ◌||◌, ◌==◌, not, nat_le, nat_lt, List, Option, Some, None, is_some, Result, Ok, Err, if◌then◌else◌}
+use Rattle.std.specs.Prelude.{ℕ, zero, suc, ◌+◌, Bool, true, false, ◌&&◌, ◌||◌, ◌==◌, not, nat_le, nat_lt, List, Option, Some, None, is_some, Result, Ok, Err, if◌then◌else◌}
+use Rattle.std.specs.Ordering.{nat_cmp}
 use Rattle.std.specs.FinSet as set
 use Rattle.grid_base.specs.declared.datum.Datum.{Datum}
 use Rattle.grid_base.specs.declared.datum.Datum.TheVariants as datum
@@ -51,6 +52,15 @@ request_within asked = do
   rounds ← within 1 MOST_ROUNDS asked.rounds
   batch ← within 1 MOST_BATCH asked.batch
   Ok (record { guarantee = asked.guarantee; rounds = rounds; batch = batch; pipeline = asked.pipeline })
+
+-- the nodes from 0 on, so many
+abbrev pub first_nodes : ℕ → set.FinSet nat_cmp
+first_nodes zero = set.empty
+first_nodes (suc n) = set.insert (first_nodes n) n
+
+-- the first members
+abbrev pub first_members : ℕ → Members
+first_members n = record { ever = first_nodes n; live = first_nodes n }
 
 -- a node is live: it was a member at some time, and hasn't departed
 unfoldable pub is_live : Members → ℕ → Judged (Unit {0})

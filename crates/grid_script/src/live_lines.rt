@@ -1,10 +1,11 @@
 //! Reading the lines of a script of a live run.
 
-ghost use Rattle.std.specs.Prelude.{◌≡◌, ◌≤◌, ◌+◌, ◌==◌, ◌&&◌, nat_le, true, length, IfOk};
+ghost use Rattle.std.specs.Prelude.{◌≡◌, ◌≤◌, ◌<◌, ◌+◌, ◌==◌, ◌&&◌, nat_le, true, length, IfOk};
 ghost use Rattle.grid_event.specs.Configs.{is_config};
 ghost use Rattle.grid_script.specs.declared.live_known.LiveKnown.{LiveKnown};
 ghost use Rattle.grid_script.specs.Judging.{Says};
-ghost use Rattle.grid_script.specs.LiveLines.{AreNoted, all_sessions, changes_in, entry_in, home_within, is_changes, is_session, is_start, live_call_in, live_erase_in, live_fields_in, live_put_in, load_in, may_change, may_put, member_depart_in, member_join_in, put_told, session_in, session_within, sessions_begun, told_in};
+ghost use Rattle.grid_script.specs.LiveRules.{IsEntryOf};
+ghost use Rattle.grid_script.specs.LiveLines.{MayTell, all_sessions, changes_in, entry_in, home_within, is_changes, is_session, is_start, live_call_in, live_erase_in, live_fields_in, live_put_in, load_in, may_change, may_put, member_depart_in, member_join_in, put_told, session_in, session_within, sessions_begun, told_in};
 
 use crate::deed::Deed;
 use crate::line_fault::LineFault;
@@ -77,7 +78,7 @@ fn may_put(section: &Section) -> bool
 #[tactic(auto, unfolding(crate::specs::LiveLines::load_in))]
 fn read_load(known: &LiveKnown, text: &[u8]) -> Result<LiveTold, LineFault>
     ensures judged { Says result (load_in known.now text.now) }
-    ensures noted { IfOk result (AreNoted known.now) }
+    ensures kept { IfOk result (MayTell known.now) }
 {
     read_end(text)?;
     needs(is_start(&known.section), Reason::Syntax)?;
@@ -88,7 +89,7 @@ fn read_load(known: &LiveKnown, text: &[u8]) -> Result<LiveTold, LineFault>
 #[tactic(auto, unfolding(crate::specs::LiveLines::changes_in))]
 fn read_changes(known: &LiveKnown, text: &[u8]) -> Result<LiveTold, LineFault>
     ensures judged { Says result (changes_in known.now text.now) }
-    ensures noted { IfOk result (AreNoted known.now) }
+    ensures kept { IfOk result (MayTell known.now) }
 {
     read_end(text)?;
     needs(may_change(&known.section), Reason::Syntax)?;
@@ -113,10 +114,11 @@ fn is_next_session(known: &LiveKnown, number: u32) -> bool
 }
 
 /// The session of the next number.
-#[tactic(auto, using(crate::proofs::Sessions::is_next))]
+#[tactic(auto, using(crate::proofs::Sessions::is_next, crate::proofs::Sessions::is_one_of_few))]
 fn session_within(known: &LiveKnown, number: u32) -> Result<SessionId, LineFault>
     ensures judged { Says result (session_within (sessions_begun known.now.sessions known.now.section) number) }
     ensures next { IfOk result (λ n. n ≡ sessions_begun known.now.sessions known.now.section + 1) }
+    ensures few { IfOk result (λ n. n ≤ 16) }
 {
     if is_next_session(known, number) {
         Ok(SessionId::new(number as u16))
@@ -128,7 +130,8 @@ fn session_within(known: &LiveKnown, number: u32) -> Result<SessionId, LineFault
 /// The home of a session, which is one of the first nodes.
 #[tactic(auto, unfolding(crate::specs::LiveLines::home_within))]
 fn home_within(nodes: u8, number: u32) -> Result<NodeId, LineFault>
-    ensures { Says result (home_within nodes number) }
+    ensures judged { Says result (home_within nodes number) }
+    ensures first { IfOk result (λ home. home < nodes) }
 {
     let home = node_within(number)?;
     if home.number() < nodes {
@@ -142,7 +145,7 @@ fn home_within(nodes: u8, number: u32) -> Result<NodeId, LineFault>
 #[tactic(auto, unfolding(crate::specs::LiveLines::session_in))]
 fn read_session(alloc: Global, known: &LiveKnown, text: &[u8]) -> Result<LiveTold, LineFault>
     ensures judged { Says result (session_in known.now text.now) }
-    ensures noted { IfOk result (AreNoted known.now) }
+    ensures kept { IfOk result (MayTell known.now) }
 {
     let (first, rest) = read_number_field(text)?;
     let second = read_last_number(rest)?;
@@ -159,7 +162,7 @@ fn read_session(alloc: Global, known: &LiveKnown, text: &[u8]) -> Result<LiveTol
 #[tactic(auto, unfolding(crate::specs::LiveLines::member_join_in))]
 fn read_member_join(known: &LiveKnown, text: &[u8]) -> Result<LiveTold, LineFault>
     ensures judged { Says result (member_join_in known.now text.now) }
-    ensures noted { IfOk result (AreNoted known.now) }
+    ensures kept { IfOk result (MayTell known.now) }
 {
     needs(is_changes(&known.section), Reason::Syntax)?;
     let number = read_last_number(text)?;
@@ -172,7 +175,7 @@ fn read_member_join(known: &LiveKnown, text: &[u8]) -> Result<LiveTold, LineFaul
 #[tactic(auto, unfolding(crate::specs::LiveLines::member_depart_in))]
 fn read_member_depart(known: &LiveKnown, text: &[u8]) -> Result<LiveTold, LineFault>
     ensures judged { Says result (member_depart_in known.now text.now) }
-    ensures noted { IfOk result (AreNoted known.now) }
+    ensures kept { IfOk result (MayTell known.now) }
 {
     needs(is_changes(&known.section), Reason::Syntax)?;
     let number = read_last_number(text)?;
@@ -198,8 +201,9 @@ fn read_entry(alloc: Global, text: &[u8]) -> Result<Entry, LineFault>
 
 /// What a put tells: an entry of the load, or a deed of the session.
 fn put_told(section: &Section, entry: Entry) -> LiveTold
+    requires { may_put section.now ≡ true }
     ensures told { result ≡ put_told section.now entry }
-    ensures noted { (known : LiveKnown) → AreNoted known result }
+    ensures kept { (known : LiveKnown) → known.section ≡ section.now → IsEntryOf known.config entry → MayTell known result }
 {
     match section {
         Section::Load => LiveTold::Loads(entry),
@@ -212,7 +216,7 @@ fn put_told(section: &Section, entry: Entry) -> LiveTold
 fn read_live_put(alloc: Global, known: &LiveKnown, text: &[u8]) -> Result<LiveTold, LineFault>
     requires { is_config known.now.config ≡ true }
     ensures judged { Says result (live_put_in known.now text.now) }
-    ensures noted { IfOk result (AreNoted known.now) }
+    ensures kept { IfOk result (MayTell known.now) }
 {
     needs(may_put(&known.section), Reason::Syntax)?;
     let entry = read_entry(alloc, text)?;
@@ -226,7 +230,7 @@ fn read_live_put(alloc: Global, known: &LiveKnown, text: &[u8]) -> Result<LiveTo
 fn read_live_erase(known: &LiveKnown, text: &[u8]) -> Result<LiveTold, LineFault>
     requires { is_config known.now.config ≡ true }
     ensures judged { Says result (live_erase_in known.now text.now) }
-    ensures noted { IfOk result (AreNoted known.now) }
+    ensures kept { IfOk result (MayTell known.now) }
 {
     needs(is_session(&known.section), Reason::Syntax)?;
     let key = read_last_key(text)?;
@@ -238,7 +242,7 @@ fn read_live_erase(known: &LiveKnown, text: &[u8]) -> Result<LiveTold, LineFault
 #[tactic(auto, unfolding(crate::specs::LiveLines::live_call_in))]
 fn read_live_call(alloc: Global, known: &LiveKnown, text: &[u8]) -> Result<LiveTold, LineFault>
     ensures judged { Says result (live_call_in known.now text.now) }
-    ensures noted { IfOk result (AreNoted known.now) }
+    ensures kept { IfOk result (MayTell known.now) }
 {
     needs(is_session(&known.section), Reason::Syntax)?;
     let (number, rest) = read_number_field(text)?;
@@ -259,7 +263,7 @@ fn read_live_fields(
 ) -> Result<LiveTold, LineFault>
     requires { is_config known.now.config ≡ true }
     ensures judged { Says result (live_fields_in known.now word text.now) }
-    ensures noted { IfOk result (AreNoted known.now) }
+    ensures kept { IfOk result (MayTell known.now) }
 {
     match word {
         LiveWord::Load => read_load(known, text),
@@ -282,7 +286,7 @@ pub(crate) fn read_told(
 ) -> Result<LiveTold, LineFault>
     requires { is_config known.now.config ≡ true }
     ensures judged { Says result (told_in known.now text.now) }
-    ensures noted { IfOk result (AreNoted known.now) }
+    ensures kept { IfOk result (MayTell known.now) }
 {
     let (word, rest) = read_live_word(text)?;
     read_live_fields(alloc, known, word, rest)

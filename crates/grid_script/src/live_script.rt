@@ -7,8 +7,11 @@ use grid_event::Config;
 use sqlite_items::Items;
 use std::marker::Model;
 
-/// A script of a live run: the settings of the cluster, which are in their limits, the entries that
-/// are loaded first, the changes of the membership, and the sessions, which are numbered from 1.
+/// A script of a live run: the settings of the cluster, the entries that are loaded first, the
+/// changes of the membership, and the sessions. It keeps the rules of scripts: each number is in
+/// its limits, each change is possible behind those before it, the sessions are numbered from 1 and
+/// have first nodes as their homes, no two calls have one number, each pipeline checks, each key has
+/// a segment, and each value is of the settings' kind.
 #[derive(Debug, Drop)]
 pub struct LiveScript {
     pub config: Config,
@@ -18,11 +21,10 @@ pub struct LiveScript {
 }
 
 impl Model for LiveScript {
-    ghost use Rattle.std.specs.Prelude.{◌≡◌, true};
     ghost use Rattle.std.specs.Coded.{codes};
     ghost use Rattle.pipeline_expr.specs.contracts.expr.Expr as exprs;
-    ghost use Rattle.grid_event.specs.Configs.{is_config};
-    ghost use Rattle.grid_script.specs.Scripts.{Lives, are_numbered};
+    ghost use Rattle.grid_script.specs.LiveRules.{IsLive};
+    ghost use Rattle.grid_script.specs.Scripts.{Lives};
 
     ghost Value = { Lives };
 
@@ -30,5 +32,5 @@ impl Model for LiveScript {
 
     ghost view = { λ script. record { config = script.config; load = script.load.list; changes = script.changes; sessions = script.sessions } };
 
-    ghost invariant = { λ script. (is_config script.config ≡ true) × (are_numbered 1 script.sessions ≡ true) };
+    ghost invariant = { λ script. IsLive (record { config = script.config; load = script.load.list; changes = script.changes; sessions = script.sessions }) };
 }

@@ -2,8 +2,7 @@
 
 ghost use Rattle.std.specs.Prelude.{◌≡◌, ◌≤◌};
 ghost use Rattle.grid_script.specs.Judging.{Says};
-ghost use Rattle.grid_script.specs.Reading.{first_members, first_nodes};
-ghost use Rattle.grid_script.specs.Rules.{is_live, may_depart, may_join, with_departed, with_joined};
+ghost use Rattle.grid_script.specs.Rules.{first_members, first_nodes, is_live, may_depart, may_join, with_departed, with_joined};
 
 use crate::line_fault::LineFault;
 use crate::reason::Reason;

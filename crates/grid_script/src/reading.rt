@@ -5,7 +5,8 @@ ghost use Rattle.grid_base.specs.declared.limits.TheConstants.{LAST_CLOCK, LONGE
 ghost use Rattle.grid_event.specs.Configs.{is_config};
 ghost use Rattle.grid_script.specs.Judging.{Answers, Says};
 ghost use Rattle.grid_script.specs.Lines.{Line, lines_of};
-ghost use Rattle.grid_script.specs.LiveLines.{AreNoted, IsNotedDeed, IsNotedMember, IsNumbered, all_sessions, calls_with, members_with, section_with, with_members, with_told};
+ghost use Rattle.grid_script.specs.LiveLines.{IsNotedDeed, IsSoFar, MayTell, all_sessions, section_with, with_members, with_told};
+ghost use Rattle.grid_script.specs.LiveRules.{calls_with, members_with, node_of};
 ghost use Rattle.grid_script.specs.Reading.{after_all, body_of, live_after, live_start, script_of, step_after, step_start};
 ghost use Rattle.grid_script.specs.StepLines.{IsNoted, noted, with_order};
 
@@ -174,7 +175,7 @@ fn read_step_script(
 /// Notes the change of the membership.
 #[tactic(auto, unfolding(crate::specs::LiveLines::with_members))]
 fn note_change(known: &mut LiveKnown, member: &Member)
-    requires { IsNotedMember member.now }
+    requires { node_of member.now ≤ 15 }
     ensures { known.new ≡ with_members known.old (members_with known.old.members member.now) }
 {
     match member {
@@ -260,7 +261,7 @@ fn with_section(known: LiveKnown, section: Section) -> Result<LiveKnown, NoMemor
 /// What is known behind a line that changes the membership.
 #[tactic(auto, unfolding(crate::specs::LiveLines::with_told, crate::specs::LiveLines::with_members))]
 fn with_change(known: LiveKnown, member: Member) -> Result<LiveKnown, NoMemory>
-    requires { IsNotedMember member }
+    requires { node_of member ≤ 15 }
     ensures { IfOk result (λ made. made ≡ with_told known (LiveTold.Changes member)) }
 {
     let mut known = known;
@@ -310,7 +311,7 @@ fn with_deed(known: LiveKnown, deed: Deed) -> Result<LiveKnown, NoMemory>
 
 /// What is known behind a line that tells this.
 fn with_told(known: LiveKnown, told: LiveTold) -> Result<LiveKnown, NoMemory>
-    requires { AreNoted known told }
+    requires { MayTell known told }
     ensures { IfOk result (λ made. made ≡ with_told known told) }
 {
     match told {
@@ -329,11 +330,9 @@ fn live_after(
     line: &[u8],
     ended: bool,
 ) -> Result<LiveKnown, LineFault>
-    requires settings { is_config known.config ≡ true }
-    requires numbered { IsNumbered known }
+    requires rules { IsSoFar known }
     ensures judged { (number : ℕ) → Says result (live_after known number (record { bytes = line.now; ended = ended })) }
-    ensures settings { IfOk result (λ next. is_config next.config ≡ true) }
-    ensures numbered { IfOk result IsNumbered }
+    ensures rules { IfOk result IsSoFar }
 {
     is_whole(line, ended)?;
     if says_nothing(line) {
@@ -368,12 +367,10 @@ fn lives_after(
     number: u32,
     text: &[u8],
 ) -> Result<LiveKnown, ScriptFault>
-    requires settings { is_config known.config ≡ true }
-    requires numbered { IsNumbered known }
+    requires rules { IsSoFar known }
     requires lines { number + length text.now < 2 ^ 32 }
     ensures told { Answers result (after_all live_after known number (lines_of text.now)) }
-    ensures settings { IfOk result (λ next. is_config next.config ≡ true) }
-    ensures numbered { IfOk result IsNumbered }
+    ensures rules { IfOk result IsSoFar }
 {
     let mut known = known;
     let mut number = number;

@@ -1,7 +1,7 @@
 //! The rules that a line has to keep.
 
 ghost use Rattle.std.specs.Prelude.{◌≡◌, ◌≤◌, ◌+◌, true, IfOk};
-ghost use Rattle.grid_base.specs.declared.limits.TheConstants.{LAST_CALL, LAST_CLOCK};
+ghost use Rattle.grid_base.specs.declared.limits.TheConstants.{LAST_CALL, LAST_CLOCK, MOST_BATCH, MOST_ROUNDS};
 ghost use Rattle.grid_event.specs.Configs.{is_config};
 ghost use Rattle.pipeline_expr.specs.Typing.{checked};
 ghost use Rattle.grid_script.specs.Judging.{Says, needs};
@@ -64,6 +64,7 @@ pub(crate) fn segment_within(config: &Config, number: u32) -> Result<SegmentId, 
 /// The call of a number from 1 to 4,096.
 pub(crate) fn call_within(number: u32) -> Result<CallId, LineFault>
     ensures judged { Says result (call_within number) }
+    ensures least { IfOk result (λ call. 1 ≤ call) }
     ensures most { IfOk result (λ call. call ≤ LAST_CALL) }
 {
     let number = number_within(1, LAST_CALL, number)?;
@@ -100,7 +101,9 @@ pub(crate) fn ticks_within(before: u32, ticks: u32) -> Result<u32, LineFault>
 /// The request, where its numbers are in their ranges.
 #[tactic(auto, unfolding(crate::specs::Rules::request_within))]
 pub(crate) fn request_within(asked: Asked) -> Result<Request, LineFault>
-    ensures { Says result (request_within asked) }
+    ensures judged { Says result (request_within asked) }
+    ensures rounds { IfOk result (λ request. (1 ≤ request.rounds) × (request.rounds ≤ MOST_ROUNDS)) }
+    ensures batch { IfOk result (λ request. (1 ≤ request.batch) × (request.batch ≤ MOST_BATCH)) }
 {
     let rounds = number_within(1, u32::from(MOST_ROUNDS), asked.rounds)?;
     let batch = number_within(1, u32::from(MOST_BATCH), asked.batch)?;

@@ -1,5 +1,5 @@
 use Rattle.std.proofs.Common.{◌≡◌}
-use Rattle.grid_script.specs.Reading.{first_nodes}
+use Rattle.grid_script.specs.Rules.{first_nodes}
 use Rattle.grid_script.proofs.members.first_nodes.Given as goal
 
 -- the nodes so far

@@ -1,7 +1,6 @@
-use Rattle.std.proofs.Common.{◌≡◌, ◌+◌, ◌≤◌, true, length}
-use Rattle.grid_event.specs.Configs.{is_config}
+use Rattle.std.proofs.Common.{◌≡◌, ◌+◌, ◌≤◌, length}
 use Rattle.grid_script.specs.Lines.{lines_of}
-use Rattle.grid_script.specs.LiveLines.{IsNumbered}
+use Rattle.grid_script.specs.LiveLines.{IsSoFar}
 use Rattle.grid_script.specs.Reading.{after_all, live_after}
 use Rattle.grid_script.proofs.reading.lives_after.Given as goal
 
@@ -10,8 +9,7 @@ abbrev pub invariant-lines : goal.invariant-lines
 invariant-lines l = record {
   told : after_all live_after l.known l.number (lines_of l.rest) ≡ after_all live_after l.fn.known l.fn.number (lines_of l.text);
   room : l.number + length l.rest ≤ l.fn.number + length l.text;
-  settings : is_config l.known.config ≡ true;
-  numbered : IsNumbered l.known;
+  rules : IsSoFar l.known;
 }
 
 -- the bytes left
