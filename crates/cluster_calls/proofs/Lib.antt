@@ -1,6 +1,7 @@
 pub mod RowTables
 pub mod SetLaws
 pub mod CallLaws
+pub mod FeedLaws
 pub mod ListLaws
 pub mod UnitLaws
 pub mod RightLaws
@@ -10,3 +11,4 @@ pub mod EvidenceLaws
 pub mod QueryLaws
 pub mod NoteLaws
 pub mod RoundQueries
+pub mod TestLaws

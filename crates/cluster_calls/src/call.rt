@@ -1,19 +1,21 @@
 //! A call as it is kept.
 
-ghost use Rattle.std.specs.Prelude.{◌≡◌, ◌+◌, ◌<◌, cond, Some, is_none, IfOk, OnErr, OnOk};
+ghost use Rattle.std.specs.Prelude.{◌≡◌, ◌+◌, ◌<◌, cond, length, Some, is_none, IfOk, OnErr, OnOk};
 ghost use Rattle.std.specs.FinSet as set_of;
 ghost use Rattle.std.specs.List.{range_with_len};
 ghost use Rattle.std.specs.Option.{option_copied};
 ghost use Rattle.cluster_model.specs.Calls.{granted};
 ghost use Rattle.cluster_model.specs.State.{is_exact, is_walk};
-ghost use Rattle.cluster_model.specs.Units.{passing};
+ghost use Rattle.cluster_model.specs.Units.{further_items, passing};
 ghost use Rattle.seen_keys.specs.Passed.{all_passed};
 ghost use Rattle.cluster_calls.specs.Calling.{new_call, with_taken};
 
+use crate::feeding::{entries_behind, items_behind};
 use crate::taken::{Taken, taken_from};
 use crate::unit::Unit;
-use grid_base::{Entries, Entry, NoMemory, NodeId, SegmentId, Sequence};
+use grid_base::{Entries, Entry, Items, NoMemory, NodeId, SegmentId, Sequence};
 use grid_event::{End, Guarantee, Outcome, Request};
+use pipeline_feed::Feed;
 use seen_keys::Seen;
 use segment_hash::SegmentSet;
 use std::alloc::Global;
@@ -21,7 +23,8 @@ use std::marker::Model;
 
 /// A call: where it was made and what it asks for; the rounds made, and the numbers of the last
 /// round's units; for a walk the entries taken and how many items were given; the segments that are
-/// noted as lost; and its outcome once it is answered.
+/// noted as lost; and its outcome once it is answered. Its pipeline was fed the first `fed` entries
+/// taken, of which it makes `shown` items: those are all entries, unless memory ran out.
 #[derive(Drop)]
 pub struct Call {
     originator: NodeId,
@@ -32,6 +35,9 @@ pub struct Call {
     taken: Sequence<Taken>,
     seen: Seen,
     given: u64,
+    feed: Feed,
+    fed: usize,
+    shown: u64,
     lost: SegmentSet,
     outcome: Option<Outcome>,
 }
@@ -43,7 +49,7 @@ impl Model for Call {
     ghost use Rattle.std.specs.List.{range_with_len};
     ghost use Rattle.pipeline_expr.specs.contracts.expr.Expr as exprs;
     ghost use Rattle.cluster_model.specs.State as states;
-    ghost use Rattle.cluster_calls.specs.Takings.{IsSeen};
+    ghost use Rattle.cluster_calls.specs.Takings.{IsTaking};
 
     ghost Value = { states.Call };
 
@@ -60,7 +66,7 @@ impl Model for Call {
       outcome = call.outcome;
     } };
 
-    ghost invariant = { λ call. IsSeen call.request call.taken.list call.seen };
+    ghost invariant = { λ call. IsTaking call.request call.taken.list call.seen call.given call.feed call.fed call.shown };
 }
 
 impl Call {
@@ -69,6 +75,7 @@ impl Call {
         ensures { IfOk result (λ call. call ≡ new_call originator request) }
     {
         let seen = Seen::new(alloc)?;
+        let feed = Feed::new(alloc, &request.pipeline)?;
         Ok(Call {
             originator,
             request,
@@ -78,6 +85,9 @@ impl Call {
             taken: Sequence::new(alloc),
             seen,
             given: 0,
+            feed,
+            fed: 0,
+            shown: 0,
             lost: SegmentSet::new(),
             outcome: None,
         })
@@ -196,8 +206,21 @@ impl Call {
         Ok(entries)
     }
 
-    /// The entries are taken from the segment, and so many items given. After want of memory the
-    /// call is as before; more items than 64 bits count are want of memory.
+    /// The items that the pipeline makes of the entries, behind those that were given before. It
+    /// evaluates what wasn't fed before. The only failure is that memory runs out.
+    pub fn further(&self, alloc: Global, entries: &[Entry]) -> Result<Items, NoMemory>
+        ensures { IfOk result (λ items. items.list ≡ further_items self.now entries.now) }
+    {
+        let unfed = entries_behind(alloc, &self.taken.as_slice()[self.fed..], entries)?;
+        let made = self
+            .feed
+            .further(alloc, &self.request.pipeline, unfed.as_slice())?;
+        items_behind(alloc, made, self.given - self.shown)
+    }
+
+    /// The entries are taken from the segment, and so many items given, which are those that the
+    /// pipeline makes of them. After want of memory the call is as before; more items than 64 bits
+    /// count are want of memory.
     pub(crate) fn take(
         &mut self,
         alloc: Global,
@@ -205,6 +228,7 @@ impl Call {
         entries: &[Entry],
         given: u64,
     ) -> Result<(), NoMemory>
+        requires { given ≡ length (further_items self.old entries.now) }
         ensures ok { OnOk result (self.new ≡ with_taken segment entries.now given self.old) }
         ensures err { OnErr result (self.new ≡ self.old) }
     {
@@ -224,7 +248,27 @@ impl Call {
             unreachable!();
         }
         self.given += given;
+        self.catch_up(alloc);
         Ok(())
+    }
+
+    /// The pipeline is fed the entries taken that it wasn't fed yet. Where memory runs out it stays
+    /// behind, and is fed them later.
+    fn catch_up(&mut self, alloc: Global)
+        ensures { self.new ≡ self.old }
+    {
+        let Ok(unfed) = entries_behind(alloc, &self.taken.as_slice()[self.fed..], &[]) else {
+            return;
+        };
+        if self
+            .feed
+            .feed(alloc, &self.request.pipeline, unfed.as_slice())
+            .is_err()
+        {
+            return;
+        }
+        self.fed = self.taken.len();
+        self.shown = self.given;
     }
 
     /// The call is answered.

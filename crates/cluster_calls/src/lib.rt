@@ -4,6 +4,7 @@
 
 mod call;
 mod calls;
+mod feeding;
 mod row;
 mod table;
 mod taken;
@@ -14,3 +15,6 @@ pub use call::Call;
 pub use calls::Calls;
 pub use taken::Taken;
 pub use unit::Unit;
+
+#[cfg(test)]
+mod tests;

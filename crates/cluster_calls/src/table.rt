@@ -6,6 +6,7 @@ ghost use Rattle.std.specs.FinSet as set_of;
 ghost use Rattle.std.specs.List.{filter};
 ghost use Rattle.std.specs.Option.{option_copied};
 ghost use Rattle.cluster_model.specs.Topologies.{all_noted};
+ghost use Rattle.cluster_model.specs.Units.{further_items};
 ghost use Rattle.cluster_calls.specs.Calling.{is_one};
 ghost use Rattle.cluster_calls.specs.Rows.{MayAsk, changes_row, each_row, may_close, may_end_one, notes, with_outcome, with_row_asks, with_row_end, with_row_taken, with_row_without_open};
 
@@ -103,8 +104,8 @@ impl Table {
         }
     }
 
-    /// The call takes the entries from the segment, and so many items are given. After want of
-    /// memory all is as before.
+    /// The call takes the entries from the segment, and so many items are given, which are those
+    /// that its pipeline makes of them. After want of memory all is as before.
     pub(crate) fn take(
         &mut self,
         alloc: Global,
@@ -113,6 +114,7 @@ impl Table {
         entries: &[Entry],
         given: u64,
     ) -> Result<(), NoMemory>
+        requires { (row : Row) → map_of.get self.old number ≡ Some row → given ≡ length (further_items row.call entries.now) }
         ensures ok { OnOk result (self.new ≡ changes_row number (with_row_taken segment entries.now given) self.old) }
         ensures err { OnErr result (self.new ≡ self.old) }
     {

@@ -102,7 +102,7 @@ impl Tally {
         requires within { segment < 256 }
         ensures { self.new ≡ with_end segment self.old }
     {
-        self.unended -= 1;
+        self.close();
         self.left -= 1;
         self.complete.add(segment);
     }

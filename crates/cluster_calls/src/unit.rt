@@ -197,6 +197,6 @@ impl Unit {
         ensures { self.new ≡ with_loss at self.old }
     {
         self.work.mark_lost(at);
-        self.flying = None;
+        self.land();
     }
 }

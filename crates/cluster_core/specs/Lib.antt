@@ -1,6 +1,4 @@
-pub mod Views
-pub mod Served
 pub mod Insides
-pub mod Rounds
-pub mod Starts
-pub mod Evidence
+pub mod Reading
+pub mod Taking
+pub mod Lifespans

@@ -1,54 +1,52 @@
 //! The core: its data, and the questions about it.
 
-ghost use Rattle.std.specs.Prelude.{◌≡◌, ◌+◌, ◌&&◌, ◌==◌, true, Some, IfOk, OnErr, OnOk, is_none};
-ghost use Rattle.std.specs.Option.{option_copied};
-ghost use Rattle.std.specs.List.{list_any};
-ghost use Rattle.grid_event.specs.Configs.{is_config, is_up_to};
-ghost use Rattle.cluster_core.specs.Served.{IsOne, is_served};
-ghost use Rattle.fixed_topology.specs.State.{call_of, start, unit_of};
-ghost use Rattle.fixed_topology.specs.State as states;
-ghost use Rattle.fixed_topology.specs.Calls.{can_go_on, can_invoke, has_open, invoked, is_complete, is_count, is_request};
-ghost use Rattle.fixed_topology.specs.Writes.{can_write, is_deadline, is_of_kind, written};
+ghost use Rattle.std.specs.Prelude.{◌≡◌, ℕ, true, None, Some, IfOk};
+ghost use Rattle.std.specs.FinSet as set_of;
+ghost use Rattle.std.specs.Option.{option_copied, option_map};
+ghost use Rattle.grid_event.specs.Configs.{is_config};
+ghost use Rattle.topology_coord.specs.Coordination.{installed_id, lives};
+ghost use Rattle.cluster_model.specs.Answers.{least_of};
+ghost use Rattle.cluster_model.specs.Commands.{is_unanswered};
+ghost use Rattle.cluster_model.specs.State.{call_of, goes_on, start, unit_of};
 
 mod answers;
 mod apply;
 mod choose;
+mod drive;
+mod events;
+mod losses;
 mod rounds;
+mod serve;
+mod takes;
 mod units;
 
-use crate::call::Call;
-use crate::matches::is_of_kind;
-use crate::unit::Unit;
-use grid_base::limits::{LAST_CALL, LONGEST_LIFESPAN, MOST_BATCH, MOST_ROUNDS};
-use grid_base::{CallId, Key, NoMemory, Stamped, UnitId};
-use grid_event::{
-    Config, End, Guarantee, InvokeEvent, Partition, Pipeline, Request, ValueKind, WriteEvent,
-};
+use cluster_calls::{Call, Calls, Unit};
+use cluster_store::Store;
+use grid_base::{CallId, NoMemory, NodeId, NodeSet, SegmentId, TopologyId, UnitId};
+use grid_event::{Config, Pipeline};
 use std::alloc::Global;
-use std::collections::BTreeMap;
 use std::marker::Model;
 
-/// The core of a cluster. Contracts see it as the state of the cluster step.
+/// The core of a cluster: what it holds, and its calls with their units. Contracts see it as the
+/// state of the cluster step.
 #[derive(Drop)]
 pub struct Core {
-    config: Config,
-    copies: BTreeMap<Key, Stamped>,
-    units: Vec<Unit>,
-    calls: BTreeMap<u32, Call>,
-    read: u64,
+    store: Store,
+    calls: Calls,
 }
 
 impl Model for Core {
     ghost use Rattle.std.specs.FinMap as map_of;
-    ghost use Rattle.std.specs.Coded.{codes, coded_ℕ};
+    ghost use Rattle.std.specs.FinSet as set_of;
+    ghost use Rattle.std.specs.Coded.{codes};
+    ghost use Rattle.grid_base.specs.contracts.stamped.Stamped as stamped;
     ghost use Rattle.pipeline_expr.specs.contracts.expr.Expr as exprs;
-    ghost use Rattle.std.specs.Ordering.{nat_cmp};
-    ghost use Rattle.fixed_topology.specs.Cells.{cell_cmp};
-    ghost use Rattle.fixed_topology.specs.State.{State};
+    ghost use Rattle.state_transfer.specs.Cells.{cell_code, destination_code};
+    ghost use Rattle.cluster_model.specs.State.{State};
 
     ghost Value = { State };
 
-    ghost coded = { Prim.hlevel (codes, map_of.code, exprs.the_row.coded) };
+    ghost coded = { Prim.hlevel (codes, map_of.code, set_of.code, cell_code, destination_code, exprs.the_row.coded, stamped.the_row.coded) };
 
     ghost use Rattle.cluster_core.specs.Insides.{state_of, IsCore};
 
@@ -58,52 +56,71 @@ impl Model for Core {
 }
 
 impl Core {
-    /// The core at the start of a cluster with these settings.
+    /// The core at the start of a cluster with these settings. The only failure is that memory runs
+    /// out.
     pub fn new(alloc: Global, config: &Config) -> Result<Core, NoMemory>
-        requires limits { is_config config.now ≡ true }
-        requires served { is_served config.now ≡ true }
+        requires { is_config config.now ≡ true }
         ensures { IfOk result (λ core. core ≡ start config.now) }
     {
-        Ok(Core {
-            config: *config,
-            copies: BTreeMap::new(alloc),
-            units: Vec::new(alloc),
-            calls: BTreeMap::new(alloc),
-            read: 0,
-        })
+        let store = Store::new(alloc, config)?;
+        let calls = Calls::new(alloc, config.segments);
+        Ok(Core { store, calls })
     }
 
-    /// Whether this core serves a cluster with these settings: one of one node and one segment.
-    pub fn serves(config: &Config) -> bool
-        ensures { result ≡ is_served config.now }
+    /// The live nodes.
+    pub fn live(&self) -> NodeSet
+        ensures { (n : ℕ) → set_of.contains result n ≡ lives self.now.coord n }
     {
-        config.nodes == 1 && config.segments == 1 && matches!(config.partition, Partition::Plain)
+        self.store.live()
     }
 
-    /// The unit of that number, where there is one.
-    pub(crate) fn unit(&self, number: UnitId) -> Option<&Unit>
-        ensures unit { option_copied result ≡ unit_of self.now number }
-        ensures one { IsOne self.now.config }
+    /// The unit of that number. None comes exactly where there is none.
+    pub fn unit(&self, number: UnitId) -> Option<&Unit>
+        ensures { option_copied result ≡ unit_of self.now number }
     {
-        let _ = &self.config;
-        let number = number.number();
-        if number == 0 {
-            return None;
+        self.calls.unit(number)
+    }
+
+    /// The call of that number. None comes exactly where there is none.
+    pub fn call(&self, number: CallId) -> Option<&Call>
+        ensures { option_copied result ≡ call_of self.now number }
+    {
+        self.calls.call(number)
+    }
+
+    /// The pipeline of the call of that number. None comes exactly where there is none.
+    pub fn pipeline(&self, number: CallId) -> Option<&Pipeline>
+        ensures { option_copied result ≡ option_map (λ call. call.request.pipeline) (call_of self.now number) }
+    {
+        match self.call(number) {
+            None => None,
+            Some(call) => Some(&call.request().pipeline),
         }
-        self.units.get((number - 1) as usize)
     }
 
-    /// The call of that number, where there is one.
-    pub(crate) fn call(&self, number: CallId) -> Option<&Call>
-        ensures call { option_copied result ≡ call_of self.now number }
-        ensures one { IsOne self.now.config }
+    /// Whether the call is there and unanswered, and its originator is live.
+    pub(crate) fn goes_on(&self, number: CallId) -> bool
+        ensures { result ≡ goes_on self.now (call_of self.now number) }
     {
-        self.calls.get(&number.number())
+        match self.call(number) {
+            None => false,
+            Some(call) => self.call_goes_on(call),
+        }
     }
 
-    /// Whether the call is there and unanswered; its originator, node 0, is live.
-    pub(crate) fn can_go_on(&self, number: CallId) -> bool
-        ensures { result ≡ can_go_on self.now (call_of self.now number) }
+    /// Whether the call is unanswered, and its originator is live.
+    pub(crate) fn call_goes_on(&self, call: &Call) -> bool
+        ensures { result ≡ goes_on self.now (Some call.now) }
+    {
+        if !call.is_unanswered() {
+            return false;
+        }
+        self.store.is_live(call.originator())
+    }
+
+    /// Whether the call was made and isn't answered.
+    pub(crate) fn is_unanswered(&self, number: CallId) -> bool
+        ensures { result ≡ is_unanswered (call_of self.now number) }
     {
         match self.call(number) {
             None => false,
@@ -111,138 +128,18 @@ impl Core {
         }
     }
 
-    /// Whether a unit of the call is open.
-    pub(crate) fn has_open(&self, number: CallId) -> bool
-        ensures { result ≡ has_open self.now number }
+    /// The number of the topology that the node has installed, and 0 where the node isn't live.
+    pub(crate) fn installed_id(&self, node: NodeId) -> TopologyId
+        ensures { result ≡ installed_id self.now.coord node }
     {
-        self.units
-            .iter()
-            .any(|unit| unit.call() == number && unit.is_open())
-    }
-
-    /// Whether the unit of the call on the one segment has ended.
-    pub(crate) fn is_complete(&self, number: CallId) -> bool
-        ensures { result ≡ is_complete self.now number 0 }
-    {
-        self.units
-            .iter()
-            .any(|unit| unit.call() == number && unit.is_ended())
-    }
-
-    /// Whether the write may happen.
-    pub(crate) fn can_write(&self, write: &WriteEvent) -> bool
-        ensures { result ≡ can_write self.now write.now }
-    {
-        is_write(self.config.values, write)
-    }
-
-    /// The write happens. After want of memory the core is as before.
-    pub(crate) fn write(&mut self, alloc: Global, write: &WriteEvent) -> Result<(), NoMemory>
-        requires { can_write self.old write.now ≡ true }
-        ensures ok { OnOk result (self.new ≡ written self.old write.now) }
-        ensures err { OnErr result (self.new ≡ self.old) }
-    {
-        let value = write.value.copy(alloc)?;
-        let stamped = Stamped {
-            value,
-            until: write.until,
-        };
-        self.copies.insert(write.key, stamped)?;
-        Ok(())
-    }
-
-    /// Whether the call may be made.
-    pub(crate) fn can_invoke(&self, invoke: &InvokeEvent) -> bool
-        ensures { result ≡ can_invoke self.now invoke.now }
-    {
-        match self.call(invoke.call) {
-            Some(_) => false,
-            None => is_invocation(invoke),
-        }
-    }
-
-    /// The call is made. After want of memory the core is as before.
-    pub(crate) fn invoke(&mut self, invoke: &InvokeEvent) -> Result<(), NoMemory>
-        requires { can_invoke self.old invoke.now ≡ true }
-        ensures ok { OnOk result (self.new ≡ invoked self.old invoke.now) }
-        ensures err { OnErr result (self.new ≡ self.old) }
-    {
-        self.calls
-            .insert(invoke.call.number(), Call::new(&invoke.request))?;
-        Ok(())
+        self.store.coord().installed_id(node)
     }
 }
 
-/// Whether the write is one at node 0, with a value of the kind and a deadline that can stand when
-/// the clock is 0.
-fn is_write(values: ValueKind, write: &WriteEvent) -> bool
-    ensures { result ≡ ((write.now.node == 0) && (is_of_kind values write.now.value && is_deadline 0 write.now.until)) }
+/// The least segment that the call has noted as lost.
+#[tactic(auto, using(crate::proofs::SetFacts::least_some, crate::proofs::SetFacts::least_none))]
+pub(crate) fn first_lost(call: &Call) -> Option<SegmentId>
+    ensures { result ≡ least_of call.now.lost }
 {
-    if write.node.number() != 0 {
-        return false;
-    }
-    if !is_of_kind(values, &write.value) {
-        return false;
-    }
-    is_deadline(write.until)
-}
-
-/// Whether the deadline can stand when the clock is 0.
-fn is_deadline(until: Option<u32>) -> bool
-    ensures { result ≡ is_deadline 0 until }
-{
-    match until {
-        None => true,
-        Some(until) => 0 < until && until <= LONGEST_LIFESPAN,
-    }
-}
-
-/// Whether the call is one of node 0, with its numbers in their limits.
-fn is_invocation(invoke: &InvokeEvent) -> bool
-    ensures { result ≡ ((invoke.now.node == 0) && (is_up_to LAST_CALL invoke.now.call && is_request invoke.now.request)) }
-{
-    if invoke.node.number() != 0 {
-        return false;
-    }
-    let number = invoke.call.number();
-    if number < 1 {
-        return false;
-    }
-    if LAST_CALL < number {
-        return false;
-    }
-    is_request(&invoke.request)
-}
-
-/// Whether the request is one for exactly once, with its numbers in their limits, that counts the
-/// entries.
-fn is_request(request: &Request) -> bool
-    ensures { result ≡ is_request request.now }
-{
-    if !matches!(request.guarantee, Guarantee::Exact) {
-        return false;
-    }
-    if request.rounds < 1 {
-        return false;
-    }
-    if MOST_ROUNDS < request.rounds {
-        return false;
-    }
-    if request.batch < 1 {
-        return false;
-    }
-    if MOST_BATCH < request.batch {
-        return false;
-    }
-    is_count(&request.pipeline)
-}
-
-/// Whether the pipeline has no operation, and the end that counts.
-fn is_count(pipeline: &Pipeline) -> bool
-    ensures { result ≡ is_count pipeline.now }
-{
-    match pipeline.ops.as_slice() {
-        [] => matches!(pipeline.end, End::Count),
-        [_, ..] => false,
-    }
+    call.lost().next_from(SegmentId::new(0))
 }

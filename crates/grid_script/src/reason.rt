@@ -29,6 +29,4 @@ pub enum Reason {
     Mistyped,
     /// The script has more than 4,194,304 bytes.
     TooLong,
-    /// The line can't be run yet. No reading of a script gives this reason.
-    NotYet,
 }

@@ -1,7 +1,5 @@
--- What is known of a script that can be run yet, and of one that was read.
-use Rattle.std.proofs.Common.{◌≡◌, Bool, true, false, ◌&&◌, List, ℕ, Result, Ok, Err, nat_lt, length, subst, refl, if◌then◌else◌}
-use Rattle.std.specs.List.{list_all}
-use Rattle.cluster_core.specs.Served as core
+-- What is known of a script that was read.
+use Rattle.std.proofs.Common.{◌≡◌, Bool, true, false, List, ℕ, Result, Ok, Err, nat_lt, length, subst, if◌then◌else◌}
 use Rattle.grid_base.specs.declared.limits.TheConstants.{LONGEST_SCRIPT}
 use Rattle.grid_event.specs.declared.config.Config.{Config}
 use Rattle.grid_script.specs.Judging.{Answers, Told, ◌>>=◌}
@@ -9,22 +7,11 @@ use Rattle.grid_script.specs.Lines.{lines_of}
 use Rattle.grid_script.specs.Reading.{after_all, body_of, script_of, step_after, step_start}
 use Rattle.grid_script.specs.Scripts.{Lives, Steps}
 use Rattle.grid_script.specs.Settings.{Behind, head_of}
-use Rattle.grid_script.specs.declared.reason.Reason.{Reason}
 use Rattle.grid_script.specs.declared.reason.Reason.TheVariants.{TooLong}
 use Rattle.grid_script.specs.declared.script.Script.{Script}
 use Rattle.grid_script.specs.declared.script.Script.TheVariants as scripts
 use Rattle.grid_script.specs.declared.script_fault.ScriptFault.{ScriptFault}
 use Rattle.grid_script.specs.declared.script_kind.ScriptKind.TheVariants as kinds
-use Rattle.grid_shell.specs.Served.{is_int, is_served, is_served_line}
-
-first_of : (a b : Bool) → (a && b) ≡ true → a ≡ true
-first_of true b h = refl
-first_of false b h = h
-
--- the core serves its settings
-pub served_settings : (script : Steps) → is_served script ≡ true → core.is_served script.config ≡ true
-unfolding is_served
-served_settings script h = first_of (core.is_served script.config) (is_int script.config.values && list_all is_served_line script.lines) h
 
 -- a script that was read is the one for which the bytes stand
 pub was_read : {A : Type 0} (r : Result A ScriptFault) (x : A) (told : Told A) → r ≡ Ok x → Answers r told → told ≡ Ok x

@@ -7,14 +7,13 @@ use Rattle.grid_script.specs.Generating.{generated}
 use Rattle.grid_script.specs.Reading.{script_of}
 use Rattle.grid_script.specs.Scripts.{Steps}
 use Rattle.grid_script.specs.declared.reason.Reason.{Reason}
-use Rattle.grid_script.specs.declared.reason.Reason.TheVariants.{NotYet, TooLong}
+use Rattle.grid_script.specs.declared.reason.Reason.TheVariants.{TooLong}
 use Rattle.grid_script.specs.declared.script.Script.TheVariants as scripts
 use Rattle.grid_script.specs.declared.script_kind.ScriptKind.TheVariants as kinds
 use Rattle.step_run.specs.Outcomes.{IsFront}
 use Rattle.step_run.specs.StepRuns.{run_of}
-use Rattle.grid_shell.specs.Served.{is_served}
 use Rattle.grid_shell.specs.declared.asks.Asked.{Asked}
-use Rattle.grid_shell.specs.declared.asks.Asked.TheVariants.{Step, Live, Gen}
+use Rattle.grid_shell.specs.declared.asks.Asked.TheVariants.{Step, Gen}
 use Rattle.grid_shell.specs.declared.asks.Form.{Form}
 
 -- a run on one thread was asked for
@@ -43,10 +42,6 @@ Had (Some (Step form)) left Holds = HadScript left (Holds form)
 Had (Some (Gen form seed keys steps)) left Holds = Holds form (generated seed keys steps)
 Had _ left Holds = ⊥
 
--- a script was asked for that can be run, and of which this holds
-abbrev pub Ran : Option Asked → Option (List ℕ) → (Form → Steps → Type 0) → Type 0
-Ran asked left Holds = Had asked left (λ form script. (is_served script ≡ true) × Holds form script)
-
 -- the history is that of the whole stepped run of the script
 abbrev pub IsWholeRun : History → Steps → Type 0
 IsWholeRun history script = ((run_of script).stopped ≡ None) × (history ≡ (run_of script).history)
@@ -67,18 +62,14 @@ GaveTooMany before after = (taken : List ℕ) × Consumes before after taken × 
 abbrev pub HadFault : Option (List ℕ) → ℕ → Reason → Type 0
 HadFault left line reason = (bytes : List ℕ) × IsAll left bytes × (script_of kinds.Step bytes ≡ Err (line, reason))
 
--- why a script of the source is refused: it is too long, the line is at fault, or it can't be run yet
+-- why a script of the source is refused: it is too long, or the line is at fault
 abbrev pub IsSourceRefusal : Option (List ℕ) → Option (List ℕ) → ℕ → Reason → Type 0
 IsSourceRefusal before after line reason =
-    ((line ≡ 0) × (reason ≡ TooLong) × GaveTooMany before after)
-    ⊎ HadFault before line reason
-    ⊎ ((line ≡ 0) × (reason ≡ NotYet) × HadScript before (λ script. is_served script ≡ false))
+    ((line ≡ 0) × (reason ≡ TooLong) × GaveTooMany before after) ⊎ HadFault before line reason
 
--- why what was asked for is refused; a script of the generator may be one that can't be run yet
+-- why what was asked for is refused; a script of the generator never is
 abbrev pub IsRefusal : Option Asked → Option (List ℕ) → Option (List ℕ) → ℕ → Reason → Type 0
 IsRefusal (Some (Step form)) before after line reason = IsSourceRefusal before after line reason
-IsRefusal (Some (Gen form seed keys steps)) before after line reason =
-    (line ≡ 0) × (reason ≡ NotYet) × (is_served (generated seed keys steps) ≡ false)
 IsRefusal _ before after line reason = ⊥
 
 -- the source has a script left of which this holds
@@ -87,11 +78,11 @@ HasScript left Holds =
     (bytes : List ℕ) × (script : Steps) × (left ≡ Some bytes) × (length bytes ≤ LONGEST_SCRIPT)
     × (script_of kinds.Step bytes ≡ Ok (scripts.Step script)) × Holds script
 
--- the script can be run, and its stepped run comes to its end
+-- the stepped run of the script comes to its end
 abbrev pub Ends : Steps → Type 0
-Ends script = (is_served script ≡ true) × ((run_of script).stopped ≡ None)
+Ends script = (run_of script).stopped ≡ None
 
--- a script was asked for that can be run, and whose stepped run comes to its end
+-- a script was asked for whose stepped run comes to its end
 abbrev pub IsServable : Option Asked → Option (List ℕ) → Type 0
 IsServable (Some (Step form)) left = HasScript left Ends
 IsServable (Some (Gen form seed keys steps)) left = Ends (generated seed keys steps)

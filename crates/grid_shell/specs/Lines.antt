@@ -4,7 +4,7 @@ use Rattle.grid_event.specs.Histories.{History}
 use Rattle.grid_journal.specs.Briefs.{brief_json_text, brief_text}
 use Rattle.grid_journal.specs.Reports.{report_text}
 use Rattle.grid_script.specs.declared.reason.Reason.{Reason}
-use Rattle.grid_script.specs.declared.reason.Reason.TheVariants.{OverLimit, Syntax, OtherKind, NodeUnknown, NodeGone, NodeTwice, LastNode, CallUnknown, CallTwice, KeyUngrouped, Mistyped, TooLong, NotYet}
+use Rattle.grid_script.specs.declared.reason.Reason.TheVariants.{OverLimit, Syntax, OtherKind, NodeUnknown, NodeGone, NodeTwice, LastNode, CallUnknown, CallTwice, KeyUngrouped, Mistyped, TooLong}
 use Rattle.grid_shell.specs.declared.asks.Form.{Form}
 use Rattle.grid_shell.specs.declared.asks.Form.TheVariants.{Full, Brief, Json}
 
@@ -32,7 +32,6 @@ reason_text CallTwice = codes "CallTwice"
 reason_text KeyUngrouped = codes "KeyUngrouped"
 reason_text Mistyped = codes "Mistyped"
 reason_text TooLong = codes "TooLong"
-reason_text NotYet = codes "NotYet"
 
 -- the script was refused at that line; 0 stands for the whole script
 abbrev pub refused_line : ℕ → Reason → List ℕ

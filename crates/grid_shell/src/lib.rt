@@ -4,7 +4,6 @@
 mod asks;
 mod plain;
 mod runs;
-mod served;
 mod sources;
 mod status;
 #[cfg(test)]

@@ -2,14 +2,15 @@
 
 ghost use Rattle.std.specs.Prelude.{◌≡◌, ◌≤◌, ◌↔◌, ◌⊎◌, ℕ, List, true, false};
 ghost use Rattle.std.specs.Io.KnownBytes.{Appends, Consumes};
-ghost use Rattle.fixed_topology.specs.Step.{is_run};
+ghost use Rattle.cluster_model.specs.Step.{is_run};
 ghost use Rattle.grid_event.specs.Histories.{blank};
 ghost use Rattle.grid_io.specs.Count.{Rose};
 ghost use Rattle.grid_io.specs.Written.{AppendsPart, Wrote};
 ghost use Rattle.grid_script.specs.declared.reason.Reason.{Reason};
-ghost use Rattle.grid_shell.specs.Causes.{IsRefusal, IsRunFront, IsRunTo, IsServable, IsWholeRun, Ran, is_of_source, is_plain};
+ghost use Rattle.grid_shell.specs.Causes.{Had, IsRefusal, IsRunFront, IsRunTo, IsServable, IsWholeRun, is_of_source, is_plain};
 ghost use Rattle.grid_shell.specs.Lines.{full_line, refused_line, text_of, usage_line};
 ghost use Rattle.grid_shell.specs.Words.{asked_of};
+ghost use Rattle.step_run.specs.RightRuns.{IsRightAndCaused};
 
 use crate::asks::Asked;
 use crate::sources::{run_generated, run_source};
@@ -29,8 +30,7 @@ use std::alloc::Global;
 ///   memory.
 /// - `ReadFault` comes only where the source's count of faults rose. Nothing is written.
 /// - `ScriptRefused` comes exactly where the source, read without fault, gave more than 4,194,304
-///   bytes, or bytes that stand for no script, or where the script can't be run yet. The line and the
-///   reason are written.
+///   bytes, or bytes that stand for no script. The line and the reason are written.
 /// - `Full` comes exactly where the stepped run stops for a full journal, at the line that is
 ///   written.
 /// - `WriteFault` comes only where the sink's count of faults rose after a whole run, and a front
@@ -40,7 +40,8 @@ use std::alloc::Global;
 /// - `Done` comes in all other cases, with the whole text written.
 ///
 /// The source is read for `step` alone. The journal stays empty with `Usage`, `ReadFault` and
-/// `ScriptRefused`. Whatever comes, it is a run of the cluster. The line of `Usage`,
+/// `ScriptRefused`. Whatever comes, it is a run of the cluster, in which the answers of all calls
+/// are right by their guarantees and each outcome has its cause. The line of `Usage`,
 /// `ScriptRefused` or `Full` is written whole, or a front of it where the sink's count of faults
 /// rose.
 pub fn run_plain<S: Source, K: Sink>(
@@ -61,19 +62,19 @@ pub fn run_plain<S: Source, K: Sink>(
         × IsRefusal (asked_of words.now) (S.left source.old) (S.left source.new) line reason
         × Wrote (K.told sink.old) (K.told sink.new) (K.faults sink.old) (K.faults sink.new) (refused_line line reason) }
     ensures full { result ≡ Status.Full → (line : ℕ)
-        × Ran (asked_of words.now) (S.left source.old) (λ form script. IsRunTo line journal.new.history script)
+        × Had (asked_of words.now) (S.left source.old) (λ form script. IsRunTo line journal.new.history script)
         × Wrote (K.told sink.old) (K.told sink.new) (K.faults sink.old) (K.faults sink.new) (full_line line) }
     ensures write_fault { result ≡ Status.WriteFault →
-        Ran (asked_of words.now) (S.left source.old) (λ form script. IsWholeRun journal.new.history script
+        Had (asked_of words.now) (S.left source.old) (λ form script. IsWholeRun journal.new.history script
         × AppendsPart (K.told sink.old) (K.told sink.new) (text_of form journal.new.history))
         × Rose (K.faults sink.old) (K.faults sink.new) }
     ensures done { result ≡ Status.Done →
-        Ran (asked_of words.now) (S.left source.old) (λ form script. IsWholeRun journal.new.history script
+        Had (asked_of words.now) (S.left source.old) (λ form script. IsWholeRun journal.new.history script
         × Appends (K.told sink.old) (K.told sink.new) (text_of form journal.new.history)) }
     ensures no_memory { result ≡ Status.NoMemory → (journal.new.history ≡ blank)
-        ⊎ Ran (asked_of words.now) (S.left source.old) (λ form script. IsRunFront journal.new.history script) }
+        ⊎ Had (asked_of words.now) (S.left source.old) (λ form script. IsRunFront journal.new.history script) }
 
-    // Served words, a good script, no fault and a run within the limits give Done, or want of memory.
+    // Good words, a good script, no fault and a run within the limits give Done, or want of memory.
     ensures complete { IsServable (asked_of words.now) (S.left source.old)
         → (Rose (S.faults source.old) (S.faults source.new) → ⊥)
         → (Rose (K.faults sink.old) (K.faults sink.new) → ⊥)
@@ -81,6 +82,7 @@ pub fn run_plain<S: Source, K: Sink>(
 
     // What stands after it.
     ensures run { is_run journal.new.history ≡ true }
+    ensures right { IsRightAndCaused journal.new.history }
     ensures unused { (result ≡ Status.Usage) ⊎ (result ≡ Status.ReadFault) ⊎ (result ≡ Status.ScriptRefused)
         → journal.new.history ≡ blank }
     ensures unwritten { (result ≡ Status.ReadFault) ⊎ (result ≡ Status.NoMemory) → sink.new ≡ sink.old }
@@ -109,22 +111,23 @@ fn run_asked<S: Source, K: Sink>(
         × IsRefusal asked (S.left source.old) (S.left source.new) line reason
         × Wrote (K.told sink.old) (K.told sink.new) (K.faults sink.old) (K.faults sink.new) (refused_line line reason) }
     ensures full { result ≡ Status.Full → (line : ℕ)
-        × Ran asked (S.left source.old) (λ form script. IsRunTo line journal.new.history script)
+        × Had asked (S.left source.old) (λ form script. IsRunTo line journal.new.history script)
         × Wrote (K.told sink.old) (K.told sink.new) (K.faults sink.old) (K.faults sink.new) (full_line line) }
     ensures write_fault { result ≡ Status.WriteFault →
-        Ran asked (S.left source.old) (λ form script. IsWholeRun journal.new.history script
+        Had asked (S.left source.old) (λ form script. IsWholeRun journal.new.history script
         × AppendsPart (K.told sink.old) (K.told sink.new) (text_of form journal.new.history))
         × Rose (K.faults sink.old) (K.faults sink.new) }
     ensures done { result ≡ Status.Done →
-        Ran asked (S.left source.old) (λ form script. IsWholeRun journal.new.history script
+        Had asked (S.left source.old) (λ form script. IsWholeRun journal.new.history script
         × Appends (K.told sink.old) (K.told sink.new) (text_of form journal.new.history)) }
     ensures no_memory { result ≡ Status.NoMemory → (journal.new.history ≡ blank)
-        ⊎ Ran asked (S.left source.old) (λ form script. IsRunFront journal.new.history script) }
+        ⊎ Had asked (S.left source.old) (λ form script. IsRunFront journal.new.history script) }
     ensures complete { IsServable asked (S.left source.old)
         → (Rose (S.faults source.old) (S.faults source.new) → ⊥)
         → (Rose (K.faults sink.old) (K.faults sink.new) → ⊥)
         → (result ≡ Status.Done) ⊎ (result ≡ Status.NoMemory) }
     ensures run { is_run journal.new.history ≡ true }
+    ensures right { IsRightAndCaused journal.new.history }
     ensures unused { (result ≡ Status.Usage) ⊎ (result ≡ Status.ReadFault) ⊎ (result ≡ Status.ScriptRefused)
         → journal.new.history ≡ blank }
     ensures unwritten { (result ≡ Status.ReadFault) ⊎ (result ≡ Status.NoMemory) → sink.new ≡ sink.old }

@@ -1,19 +1,17 @@
 //! The run of a script and its text.
 
-ghost use Rattle.std.specs.Prelude.{◌≡◌, ◌≤◌, ◌⊎◌, ℕ, true, false, IsSome};
+ghost use Rattle.std.specs.Prelude.{◌≡◌, ◌≤◌, ◌⊎◌, ℕ, true, IsSome};
 ghost use Rattle.std.specs.Io.KnownBytes.{Appends};
-ghost use Rattle.fixed_topology.specs.Step.{is_run};
+ghost use Rattle.cluster_model.specs.Step.{is_run};
 ghost use Rattle.grid_event.specs.Histories.{blank};
 ghost use Rattle.grid_io.specs.Count.{Rose};
 ghost use Rattle.grid_io.specs.Written.{AppendsPart, Wrote};
-ghost use Rattle.grid_script.specs.declared.reason.Reason.TheVariants.{NotYet};
 ghost use Rattle.grid_shell.specs.Causes.{IsRunFront, IsRunTo, IsWholeRun};
 ghost use Rattle.grid_shell.specs.Endings.{IsEnding};
 ghost use Rattle.grid_shell.specs.Lines.{full_line, refused_line, text_of};
-ghost use Rattle.grid_shell.specs.Served.{is_served};
+ghost use Rattle.step_run.specs.RightRuns.{IsRightAndCaused};
 
 use crate::asks::Form;
-use crate::served::is_served;
 use crate::status::Status;
 use crate::texts::{full, refused, text};
 use grid_event::Journal;
@@ -22,7 +20,7 @@ use grid_script::{Reason, StepScript};
 use std::alloc::Global;
 use step_run::{RunFault, run_steps};
 
-/// Runs the script where it can be run yet, and writes the run in this form.
+/// Runs the script, and writes the run in this form.
 pub(crate) fn run_script<K: Sink>(
     alloc: Global,
     form: Form,
@@ -31,41 +29,6 @@ pub(crate) fn run_script<K: Sink>(
     journal: &mut Journal,
 ) -> Status
     requires { journal.old.history ≡ blank }
-    ensures ending { (result ≡ Status.ScriptRefused) ⊎ IsEnding result }
-    ensures refused { result ≡ Status.ScriptRefused → (is_served script.now ≡ false)
-        × Wrote (K.told sink.old) (K.told sink.new) (K.faults sink.old) (K.faults sink.new) (refused_line 0 NotYet) }
-    ensures full { result ≡ Status.Full → (line : ℕ) × ((is_served script.now ≡ true) × IsRunTo line journal.new.history script.now)
-        × Wrote (K.told sink.old) (K.told sink.new) (K.faults sink.old) (K.faults sink.new) (full_line line) }
-    ensures write_fault { result ≡ Status.WriteFault →
-        ((is_served script.now ≡ true) × IsWholeRun journal.new.history script.now
-        × AppendsPart (K.told sink.old) (K.told sink.new) (text_of form journal.new.history))
-        × Rose (K.faults sink.old) (K.faults sink.new) }
-    ensures done { result ≡ Status.Done →
-        (is_served script.now ≡ true) × IsWholeRun journal.new.history script.now
-        × Appends (K.told sink.old) (K.told sink.new) (text_of form journal.new.history) }
-    ensures no_memory { result ≡ Status.NoMemory → (journal.new.history ≡ blank)
-        ⊎ ((is_served script.now ≡ true) × IsRunFront journal.new.history script.now) }
-    ensures run { is_run journal.new.history ≡ true }
-    ensures unused { result ≡ Status.ScriptRefused → journal.new.history ≡ blank }
-    ensures unwritten { result ≡ Status.NoMemory → sink.new ≡ sink.old }
-    ensures writes_counted { K.faults sink.old ≤ K.faults sink.new }
-{
-    if !is_served(script) {
-        return write_refused(alloc, sink, 0, Reason::NotYet);
-    }
-    run_served(alloc, form, script, sink, journal)
-}
-
-/// Runs the script, which can be run yet, and writes the run in this form.
-fn run_served<K: Sink>(
-    alloc: Global,
-    form: Form,
-    script: &StepScript,
-    sink: &mut K,
-    journal: &mut Journal,
-) -> Status
-    requires blank { journal.old.history ≡ blank }
-    requires served { is_served script.now ≡ true }
     ensures ending { IsEnding result }
     ensures full { result ≡ Status.Full → (line : ℕ) × IsRunTo line journal.new.history script.now
         × Wrote (K.told sink.old) (K.told sink.new) (K.faults sink.old) (K.faults sink.new) (full_line line) }
@@ -79,6 +42,7 @@ fn run_served<K: Sink>(
     ensures no_memory { result ≡ Status.NoMemory →
         (journal.new.history ≡ blank) ⊎ IsRunFront journal.new.history script.now }
     ensures run { is_run journal.new.history ≡ true }
+    ensures right { IsRightAndCaused journal.new.history }
     ensures unwritten { result ≡ Status.NoMemory → sink.new ≡ sink.old }
     ensures writes_counted { K.faults sink.old ≤ K.faults sink.new }
 {

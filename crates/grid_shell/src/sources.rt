@@ -2,17 +2,17 @@
 
 ghost use Rattle.std.specs.Prelude.{◌≡◌, ◌≤◌, ◌⊎◌, ℕ, List, true, false};
 ghost use Rattle.std.specs.Io.KnownBytes.{Appends, Consumes};
-ghost use Rattle.fixed_topology.specs.Step.{is_run};
+ghost use Rattle.cluster_model.specs.Step.{is_run};
 ghost use Rattle.grid_event.specs.Histories.{blank};
 ghost use Rattle.grid_io.specs.Count.{Rose};
 ghost use Rattle.grid_io.specs.Written.{AppendsPart, Wrote};
 ghost use Rattle.grid_script.specs.Generating.{generated};
 ghost use Rattle.grid_script.specs.declared.reason.Reason.{Reason};
-ghost use Rattle.grid_script.specs.declared.reason.Reason.TheVariants.{NotYet, TooLong};
+ghost use Rattle.grid_script.specs.declared.reason.Reason.TheVariants.{TooLong};
 ghost use Rattle.grid_shell.specs.Causes.{Ends, HadScript, HasScript, IsRunFront, IsRunTo, IsSourceRefusal, IsWholeRun};
 ghost use Rattle.grid_shell.specs.Endings.{IsAnswer, IsEnding};
 ghost use Rattle.grid_shell.specs.Lines.{full_line, refused_line, text_of};
-ghost use Rattle.grid_shell.specs.Served.{is_served};
+ghost use Rattle.step_run.specs.RightRuns.{IsRightAndCaused};
 
 use crate::asks::Form;
 use crate::runs::{run_script, write_refused};
@@ -38,22 +38,23 @@ pub(crate) fn run_source<S: Source, K: Sink>(
         × IsSourceRefusal (S.left source.old) (S.left source.new) line reason
         × Wrote (K.told sink.old) (K.told sink.new) (K.faults sink.old) (K.faults sink.new) (refused_line line reason) }
     ensures full { result ≡ Status.Full → (line : ℕ)
-        × HadScript (S.left source.old) (λ script. (is_served script ≡ true) × IsRunTo line journal.new.history script)
+        × HadScript (S.left source.old) (λ script. IsRunTo line journal.new.history script)
         × Wrote (K.told sink.old) (K.told sink.new) (K.faults sink.old) (K.faults sink.new) (full_line line) }
     ensures write_fault { result ≡ Status.WriteFault →
-        HadScript (S.left source.old) (λ script. (is_served script ≡ true) × IsWholeRun journal.new.history script
+        HadScript (S.left source.old) (λ script. IsWholeRun journal.new.history script
         × AppendsPart (K.told sink.old) (K.told sink.new) (text_of form journal.new.history))
         × Rose (K.faults sink.old) (K.faults sink.new) }
     ensures done { result ≡ Status.Done →
-        HadScript (S.left source.old) (λ script. (is_served script ≡ true) × IsWholeRun journal.new.history script
+        HadScript (S.left source.old) (λ script. IsWholeRun journal.new.history script
         × Appends (K.told sink.old) (K.told sink.new) (text_of form journal.new.history)) }
     ensures no_memory { result ≡ Status.NoMemory → (journal.new.history ≡ blank)
-        ⊎ HadScript (S.left source.old) (λ script. (is_served script ≡ true) × IsRunFront journal.new.history script) }
+        ⊎ HadScript (S.left source.old) (λ script. IsRunFront journal.new.history script) }
     ensures complete { HasScript (S.left source.old) Ends
         → (Rose (S.faults source.old) (S.faults source.new) → ⊥)
         → (Rose (K.faults sink.old) (K.faults sink.new) → ⊥)
         → (result ≡ Status.Done) ⊎ (result ≡ Status.NoMemory) }
     ensures run { is_run journal.new.history ≡ true }
+    ensures right { IsRightAndCaused journal.new.history }
     ensures unused { (result ≡ Status.ReadFault) ⊎ (result ≡ Status.ScriptRefused) → journal.new.history ≡ blank }
     ensures unwritten { (result ≡ Status.ReadFault) ⊎ (result ≡ Status.NoMemory) → sink.new ≡ sink.old }
     ensures taken { (taken : List ℕ) × Consumes (S.left source.old) (S.left source.new) taken }
@@ -90,23 +91,20 @@ pub(crate) fn run_generated<K: Sink>(
     journal: &mut Journal,
 ) -> Status
     requires { journal.old.history ≡ blank }
-    ensures ending { (result ≡ Status.ScriptRefused) ⊎ IsEnding result }
-    ensures refused { result ≡ Status.ScriptRefused → (is_served (generated seed keys steps) ≡ false)
-        × Wrote (K.told sink.old) (K.told sink.new) (K.faults sink.old) (K.faults sink.new) (refused_line 0 NotYet) }
-    ensures full { result ≡ Status.Full → (line : ℕ)
-        × ((is_served (generated seed keys steps) ≡ true) × IsRunTo line journal.new.history (generated seed keys steps))
+    ensures ending { IsEnding result }
+    ensures full { result ≡ Status.Full → (line : ℕ) × IsRunTo line journal.new.history (generated seed keys steps)
         × Wrote (K.told sink.old) (K.told sink.new) (K.faults sink.old) (K.faults sink.new) (full_line line) }
     ensures write_fault { result ≡ Status.WriteFault →
-        ((is_served (generated seed keys steps) ≡ true) × IsWholeRun journal.new.history (generated seed keys steps)
-        × AppendsPart (K.told sink.old) (K.told sink.new) (text_of form journal.new.history))
+        IsWholeRun journal.new.history (generated seed keys steps)
+        × AppendsPart (K.told sink.old) (K.told sink.new) (text_of form journal.new.history)
         × Rose (K.faults sink.old) (K.faults sink.new) }
     ensures done { result ≡ Status.Done →
-        (is_served (generated seed keys steps) ≡ true) × IsWholeRun journal.new.history (generated seed keys steps)
+        IsWholeRun journal.new.history (generated seed keys steps)
         × Appends (K.told sink.old) (K.told sink.new) (text_of form journal.new.history) }
-    ensures no_memory { result ≡ Status.NoMemory → (journal.new.history ≡ blank)
-        ⊎ ((is_served (generated seed keys steps) ≡ true) × IsRunFront journal.new.history (generated seed keys steps)) }
+    ensures no_memory { result ≡ Status.NoMemory →
+        (journal.new.history ≡ blank) ⊎ IsRunFront journal.new.history (generated seed keys steps) }
     ensures run { is_run journal.new.history ≡ true }
-    ensures unused { result ≡ Status.ScriptRefused → journal.new.history ≡ blank }
+    ensures right { IsRightAndCaused journal.new.history }
     ensures unwritten { result ≡ Status.NoMemory → sink.new ≡ sink.old }
     ensures writes_counted { K.faults sink.old ≤ K.faults sink.new }
 {

@@ -105,6 +105,18 @@ finish 1
 finish 1
 ";
 
+const WALKED: &[u8] = b"call 1 0 exact 1 10 each
+";
+
+const LEFT: &[u8] = b"put 0 a 1
+join 1
+settle
+put 1 b 2
+call 1 1 atleast 2 1 each
+round 1
+depart 0
+";
+
 const EMPTY_REPORT: &[u8] = b"\
 grid nodes 1 segments 1 owners 1 partition plain values int chunk 2
 0 topology 1 NO_REBALANCE 0
@@ -132,6 +144,35 @@ grid nodes 1 segments 1 owners 1 partition plain values int chunk 2
 end 8
 ";
 
+const WALKED_REPORT: &[u8] = b"\
+grid nodes 1 segments 1 owners 1 partition plain values int chunk 2
+0 topology 1 NO_REBALANCE 0
+1 invoke 0 1 0 exact 1 10 each
+2 round 1 1 1:0@0
+3 begin 1 run
+4 fetch 1 0 last
+5 take 1 0 0
+6 done 1
+7 answer 1 ended
+end 7
+";
+
+const LEFT_REPORT: &[u8] = b"\
+grid nodes 1 segments 1 owners 1 partition plain values int chunk 2
+0 topology 1 NO_REBALANCE 0
+1 write 0 0 a 1
+2 join 1
+- idle 10
+3 write 0 1 b 2
+4 invoke 0 1 1 atleast 2 1 each
+5 round 1 1 1:0@0
+6 depart 0
+7 answer 1 segment_lost 0
+8 announce 2 NO_REBALANCE 1
+9 install 1 2
+end 9
+";
+
 const FILLED_BRIEF: &[u8] = b"\
 grid nodes 1 segments 1 owners 1 partition plain values int chunk 2
 call 1 value count 2
@@ -143,6 +184,16 @@ end
 
 const FILLED_JSON: &[u8] = b"\
 {\"calls\":[{\"call\":1,\"outcome\":\"value count 2\"}],\"keys\":2,\"nodes\":[0],\"topology\":\"NO_REBALANCE 0\"}
+";
+
+const GENERATED_BRIEF: &[u8] = b"\
+grid nodes 4 segments 64 owners 2 partition plain values int chunk 100
+call 1 value count 1
+call 2 ended 1
+nodes 0,1,2,3,4
+topology NO_REBALANCE 0,1;1,2;2,3;3,4;4,0;0,1;1,2;2,3;3,4;4,0;0,1;1,2;2,3;3,4;4,0;0,1;1,2;2,3;3,4;4,0;0,1;1,2;2,3;3,4;4,0;0,1;1,2;2,3;3,4;4,0;0,1;1,2;2,3;3,4;4,0;0,1;1,2;2,3;3,4;4,0;0,1;1,2;2,3;3,4;4,0;0,1;1,2;2,3;3,4;4,0;0,1;1,2;2,3;3,4;4,0;0,1;1,2;2,3;3,4;4,0;0,1;1,2;2,3;3,4
+keys 2
+end
 ";
 
 const USAGE: &[u8] = b"\
@@ -165,7 +216,12 @@ fn told(alloc: Global, form: &[u8], lines: &[u8]) -> Result<End, Fail> {
 #[test]
 fn reports(rt: HostRuntime) -> Result<(), Fail> {
     let alloc = rt.alloc();
-    let rows = [(EMPTY, EMPTY_REPORT, 6), (FILLED, FILLED_REPORT, 8)];
+    let rows = [
+        (EMPTY, EMPTY_REPORT, 6),
+        (FILLED, FILLED_REPORT, 8),
+        (WALKED, WALKED_REPORT, 7),
+        (LEFT, LEFT_REPORT, 9),
+    ];
     for (lines, written, events) in rows {
         let end = told(alloc, b"--form=full", lines)?;
         assert_eq!(rt; end.status, Status::Done);
@@ -213,9 +269,7 @@ fn refusals(rt: HostRuntime) -> Result<(), Fail> {
         (b"call 1 0 exact 1 10 count \n", b"refused 8 Syntax\n"),
         (b"call 1 0 exa", b"refused 8 Syntax\n"),
         (b"finish 1\n", b"refused 8 CallUnknown\n"),
-        (b"put 0 a 1\njoin 1\n", b"refused 0 NotYet\n"),
-        (b"call 1 0 exact 1 10 each\n", b"refused 0 NotYet\n"),
-        (b"call 1 0 atmost 1 10 count\n", b"refused 0 NotYet\n"),
+        (b"put 0 a 1\njoin 0\n", b"refused 9 NodeTwice\n"),
     ];
     for (lines, written) in rows {
         let end = told(alloc, b"--form=full", lines)?;
@@ -259,16 +313,16 @@ fn a_full_journal(rt: HostRuntime) -> Result<(), Fail> {
 }
 
 #[test]
-fn a_generated_script_can_not_be_run_yet(rt: HostRuntime) -> Result<(), Fail> {
+fn a_generated_script(rt: HostRuntime) -> Result<(), Fail> {
     let alloc = rt.alloc();
     let words = words(
         alloc,
         &[b"gen".as_slice(), b"7", b"--steps=0", b"--keys", b"1"],
     )?;
     let end = run(alloc, words.as_slice(), bytes(alloc, b"")?, 1, 0)?;
-    assert_eq!(rt; end.status, Status::ScriptRefused);
-    assert_eq!(rt; end.written.as_slice(), b"refused 0 NotYet\n".as_slice());
-    assert_eq!(rt; end.events, 0);
+    assert_eq!(rt; end.status, Status::Done);
+    assert_eq!(rt; end.written.as_slice(), GENERATED_BRIEF);
+    assert_eq!(rt; end.events, 627);
     Ok(())
 }
 

@@ -47,7 +47,6 @@ fn reason_word(reason: Reason) -> &'static [u8]
         Reason::KeyUngrouped => b"KeyUngrouped",
         Reason::Mistyped => b"Mistyped",
         Reason::TooLong => b"TooLong",
-        Reason::NotYet => b"NotYet",
     }
 }
 

@@ -5,8 +5,8 @@ use Rattle.grid_base.specs.declared.limits.TheConstants.{MOST_EVENTS}
 use Rattle.grid_event.specs.declared.command.Command.{Command}
 use Rattle.grid_event.specs.declared.event.Event.{Event}
 use Rattle.grid_event.specs.Histories.{History, passes_limit, with_event}
-use Rattle.fixed_topology.specs.Commands.{chosen}
-use Rattle.fixed_topology.specs.Step.{changed}
+use Rattle.cluster_model.specs.Commands.{chosen}
+use Rattle.cluster_model.specs.Step.{changed}
 use Rattle.step_run.specs.StepRuns.{Progress, by_event, repeated, with_event_at}
 
 -- the run has stopped, or the command has no event

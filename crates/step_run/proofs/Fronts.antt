@@ -10,9 +10,9 @@ use Rattle.grid_event.specs.Histories.{History, passes_limit, with_event}
 use Rattle.grid_script.specs.declared.order.Order.{Order}
 use Rattle.grid_script.specs.declared.order.Order.TheVariants.{One, Settle, Finish}
 use Rattle.grid_script.specs.declared.step_line.StepLine.{StepLine}
-use Rattle.fixed_topology.specs.Commands.{chosen}
-use Rattle.fixed_topology.specs.State.{State}
-use Rattle.fixed_topology.specs.Step.{changed}
+use Rattle.cluster_model.specs.Commands.{chosen}
+use Rattle.cluster_model.specs.State.{State}
+use Rattle.cluster_model.specs.Step.{changed}
 use Rattle.step_run.specs.Outcomes.{IsFront, LeavesAt, running}
 use Rattle.step_run.specs.StepRuns.{ENOUGH, Progress, after_lines, all_done, all_finished, by_event, done, ended, going, noted, order_done, repeated, settled, with_event_at}
 use Rattle.step_run.specs.declared.run_fault.RunFault.{RunFault}

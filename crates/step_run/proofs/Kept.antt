@@ -11,10 +11,10 @@ use Rattle.grid_script.specs.Scripts.{Steps}
 use Rattle.grid_script.specs.declared.order.Order.{Order}
 use Rattle.grid_script.specs.declared.order.Order.TheVariants.{One, Settle, Finish}
 use Rattle.grid_script.specs.declared.step_line.StepLine.{StepLine}
-use Rattle.fixed_topology.specs.Commands.{chosen}
-use Rattle.fixed_topology.specs.State.{State, start}
-use Rattle.fixed_topology.specs.Step.{allowed, changed, is_run, is_run_of, runs, state}
-use Rattle.fixed_topology.proofs.ChosenSteps.{MayHappen, chosen_may}
+use Rattle.cluster_model.specs.Commands.{chosen}
+use Rattle.cluster_model.specs.State.{State, start}
+use Rattle.cluster_model.specs.Step.{allowed, changed, is_run, is_run_of, runs, state}
+use Rattle.cluster_model.proofs.ChosenSteps.{MayHappen, chosen_may}
 use Rattle.step_run.specs.Outcomes.{IsFront, Leaves, LeavesRun, running}
 use Rattle.step_run.specs.StepRuns.{ENOUGH, Progress, after_lines, all_done, all_finished, begin, by_event, done, ended, going, noted, order_done, repeated, run_of, with_event_at}
 use Rattle.step_run.specs.declared.run_fault.RunFault.{RunFault}

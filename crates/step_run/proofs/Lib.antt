@@ -2,3 +2,4 @@ pub mod Fronts
 pub mod Resuming
 pub mod Kept
 pub mod Endings
+pub mod RightRuns

@@ -5,8 +5,8 @@ use Rattle.grid_event.specs.declared.command.Command.{Command}
 use Rattle.grid_event.specs.declared.command.Command.TheVariants.{Drive}
 use Rattle.grid_event.specs.declared.event.Event.{Event}
 use Rattle.grid_event.specs.Histories.{History, with_idle}
-use Rattle.fixed_topology.specs.Commands.{chosen}
-use Rattle.fixed_topology.specs.State.{State}
+use Rattle.cluster_model.specs.Commands.{chosen}
+use Rattle.cluster_model.specs.State.{State}
 use Rattle.step_run.specs.Outcomes.{Leaves, LeavesAt, running}
 use Rattle.step_run.specs.StepRuns.{ENOUGH, Progress, all_finished, by_event, going, noted, repeated, with_event_at}
 use Rattle.step_run.specs.declared.run_fault.RunFault.{RunFault}

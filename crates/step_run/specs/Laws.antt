@@ -3,8 +3,8 @@ use Rattle.std.specs.Prelude.{◌≡◌, ℕ, ◌≤◌, ◌⊎◌, true, length
 use Rattle.grid_base.specs.declared.limits.TheConstants.{MOST_EVENTS}
 use Rattle.grid_event.specs.declared.command.Command.{Command}
 use Rattle.grid_script.specs.Scripts.{Steps}
-use Rattle.fixed_topology.specs.Step.{is_run}
-use Rattle.fixed_topology.specs.Commands.{chosen}
+use Rattle.cluster_model.specs.Step.{is_run}
+use Rattle.cluster_model.specs.Commands.{chosen}
 use Rattle.step_run.specs.StepRuns.{ENOUGH, Progress, repeated, run_of}
 
 -- the journal of a stepped run is a run of the cluster

@@ -1,3 +1,4 @@
 pub mod StepRuns
 pub mod Outcomes
 pub mod Laws
+pub mod RightRuns

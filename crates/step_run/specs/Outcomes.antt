@@ -2,7 +2,7 @@
 use Rattle.std.specs.Prelude.{◌≡◌, ◌⊎◌, List, ◌++◌, Some, None, Result, Ok, Err}
 use Rattle.grid_event.specs.declared.event.Event.{Event}
 use Rattle.grid_event.specs.Histories.{History, blank}
-use Rattle.fixed_topology.specs.State.{State}
+use Rattle.cluster_model.specs.State.{State}
 use Rattle.step_run.specs.StepRuns.{Progress}
 use Rattle.step_run.specs.declared.run_fault.RunFault.{RunFault}
 use Rattle.step_run.specs.declared.run_fault.RunFault.TheVariants.{Full, NoMemory}

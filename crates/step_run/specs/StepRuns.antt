@@ -10,9 +10,9 @@ use Rattle.grid_script.specs.Scripts.{Steps}
 use Rattle.grid_script.specs.declared.order.Order.{Order}
 use Rattle.grid_script.specs.declared.order.Order.TheVariants.{One, Settle, Finish}
 use Rattle.grid_script.specs.declared.step_line.StepLine.{StepLine}
-use Rattle.fixed_topology.specs.State.{State, start}
-use Rattle.fixed_topology.specs.Step.{changed}
-use Rattle.fixed_topology.specs.Commands.{chosen}
+use Rattle.cluster_model.specs.State.{State, start}
+use Rattle.cluster_model.specs.Step.{changed}
+use Rattle.cluster_model.specs.Commands.{chosen}
 
 -- a run at one moment: the cluster, its history, and the line at which the journal was full
 pub record Progress : Type 0 where

@@ -2,7 +2,7 @@
 
 ghost use Rattle.std.specs.Prelude.{◌≡◌, IfOk, IsSome, is_some};
 ghost use Rattle.grid_base.specs.declared.limits.TheConstants.{LAST_CALL};
-ghost use Rattle.fixed_topology.specs.Commands.{chosen};
+ghost use Rattle.cluster_model.specs.Commands.{chosen};
 ghost use Rattle.step_run.specs.StepRuns.{after_lines, all_done, all_finished, by_event, done, ended, noted};
 ghost use Rattle.step_run.specs.Outcomes.{Leaves, running};
 

@@ -1,11 +1,12 @@
 //! Stepped runs.
 
 ghost use Rattle.std.specs.Prelude.{◌≡◌, true, OnOk, Some};
+ghost use Rattle.grid_event.specs.Configs.{is_config};
 ghost use Rattle.grid_event.specs.Histories.{blank};
-ghost use Rattle.fixed_topology.specs.Step.{is_run};
-ghost use Rattle.cluster_core.specs.Served.{is_served};
+ghost use Rattle.cluster_model.specs.Step.{is_run};
 ghost use Rattle.step_run.specs.StepRuns.{run_of};
 ghost use Rattle.step_run.specs.Outcomes.{LeavesRun};
+ghost use Rattle.step_run.specs.RightRuns.{IsRightAndCaused};
 
 use crate::lines::{do_lines, end_all};
 use crate::run_fault::RunFault;
@@ -15,16 +16,25 @@ use grid_script::StepScript;
 use std::alloc::Global;
 
 /// Does every line of the script in turn, then finishes each call, and then settles the topology.
-/// The settings are ones that the core serves. With Ok the journal is that
-/// of the script's stepped run. Full comes exactly where that run stops for a full journal, at its
-/// line, and the journal then holds it; after want of memory the journal is empty or holds a front of
-/// that run. Whatever comes, the journal is a run of the cluster.
+/// With Ok the journal is that of the script's stepped run. Full comes exactly where that run stops
+/// for a full journal, at its line, and the journal then holds it; after want of memory the journal
+/// is empty or holds a front of that run. Whatever comes, the journal is a run of the cluster, in
+/// which the answers of all calls are right and each outcome has its cause.
 pub fn run_steps(alloc: Global, script: &StepScript, journal: &mut Journal) -> Result<(), RunFault>
     requires blank { journal.old.history ≡ blank }
-    requires served { is_served script.now.config ≡ true }
     ensures leaves { LeavesRun result journal.new.history (run_of script.now) }
     ensures settings { OnOk result (journal.new.history.config ≡ Some script.now.config) }
     ensures run { is_run journal.new.history ≡ true }
+    ensures right { IsRightAndCaused journal.new.history }
+{
+    do_script(alloc, script, journal)
+}
+
+/// Does every line of the script, whose settings are in their limits, and what is left after them.
+fn do_script(alloc: Global, script: &StepScript, journal: &mut Journal) -> Result<(), RunFault>
+    requires { journal.old.history ≡ blank }
+    ensures leaves { LeavesRun result journal.new.history (run_of script.now) }
+    ensures limits { is_config script.now.config ≡ true }
 {
     let config = script.config;
     let Ok(mut core) = Core::new(alloc, &config) else {

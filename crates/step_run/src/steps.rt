@@ -1,8 +1,8 @@
 //! One event of a run.
 
 ghost use Rattle.std.specs.Prelude.{◌≡◌, true, IfOk, IsSome, IfErr, is_some};
-ghost use Rattle.fixed_topology.specs.Step.{allowed};
-ghost use Rattle.fixed_topology.specs.Commands.{chosen};
+ghost use Rattle.cluster_model.specs.Step.{allowed};
+ghost use Rattle.cluster_model.specs.Commands.{chosen};
 ghost use Rattle.step_run.specs.StepRuns.{by_event, with_event_at};
 ghost use Rattle.step_run.specs.Outcomes.{Leaves, LeavesAt, running};
 

@@ -3,8 +3,9 @@
 ghost use Rattle.std.specs.Prelude.{◌≡◌, ◌+◌, ◌≤◌, true, length, Some, OnErr, OnOk};
 ghost use Rattle.grid_base.specs.declared.limits.TheConstants.{MOST_READ};
 ghost use Rattle.local_publisher.specs.Units.{begun, ended, extended};
-ghost use Rattle.cluster_model.specs.Units.{read_by};
-ghost use Rattle.cluster_calls.specs.Calling.{changes_unit, flies, is_one, may_begin, may_end, may_read, taking_of, unit_in};
+ghost use Rattle.cluster_model.specs.State as states;
+ghost use Rattle.cluster_model.specs.Units.{further_items, read_by};
+ghost use Rattle.cluster_calls.specs.Calling.{call_in, changes_unit, flies, is_one, may_begin, may_end, may_read, taking_of, unit_in};
 
 use crate::calls::{Calls, place_of};
 use grid_base::{Batch, Entry, NoMemory, TopologyId, UnitId};
@@ -58,8 +59,9 @@ impl Calls {
         Ok(())
     }
 
-    /// What flies of the unit is taken: its call takes the entries, and so many items are given.
-    /// After want of memory all is as before; more items than 64 bits count are want of memory.
+    /// What flies of the unit is taken: its call takes the entries, and so many items are given,
+    /// which are those that its pipeline makes of them. After want of memory all is as before; more
+    /// items than 64 bits count are want of memory.
     pub fn take(
         &mut self,
         alloc: Global,
@@ -67,7 +69,8 @@ impl Calls {
         entries: &[Entry],
         given: u64,
     ) -> Result<(), NoMemory>
-        requires { is_one flies (unit_in self.old.units unit) ≡ true }
+        requires flies { is_one flies (unit_in self.old.units unit) ≡ true }
+        requires given { (u : states.Unit) (call : states.Call) → unit_in self.old.units unit ≡ Some u → call_in self.old u.work.call ≡ Some call → given ≡ length (further_items call entries.now) }
         ensures ok { OnOk result (self.new ≡ taking_of unit entries.now given (unit_in self.old.units unit) self.old) }
         ensures err { OnErr result (self.new ≡ self.old) }
     {

@@ -1,100 +1,135 @@
 //! The answers of calls.
 
-ghost use Rattle.std.specs.Prelude.{◌≡◌, ◌+◌, ◌≤◌, true, length, OnErr, OnOk};
-ghost use Rattle.cluster_core.specs.Evidence.{counts_for, read_for};
-ghost use Rattle.cluster_core.specs.Views.{count_in, counted};
-ghost use Rattle.fixed_topology.specs.Answers.{answered, can_answer, evidence, same_outcome};
-ghost use Rattle.fixed_topology.specs.Units.{read_by};
+ghost use Rattle.std.specs.Prelude.{◌≡◌, true, None, Some, IfOk, OnErr, OnOk};
+ghost use Rattle.cluster_model.specs.Answers.{answered, can_answer, evidence_of, first_of, given_up, is_whole, outcome_of, whole_outcome};
+ghost use Rattle.cluster_model.specs.Calls.{incomplete};
+ghost use Rattle.cluster_model.specs.State.{call_of};
 
-use crate::cluster::Core;
-use crate::unit::Unit;
-use grid_base::limits::MOST_READ;
-use grid_base::{CallId, NoMemory};
-use grid_event::{Answer, AnswerEvent, Outcome};
+use crate::cluster::{Core, first_lost};
+use crate::same::same_outcome;
+use cluster_calls::Call;
+use grid_base::{CallId, Entries, NoMemory, SegmentId};
+use grid_event::{AnswerEvent, Outcome};
+use pipeline_eval::run_plain_pipeline;
+use std::alloc::Global;
 
 impl Core {
-    /// How many entries the ended units of the call have read.
-    pub(crate) fn count(&self, number: CallId) -> u64
-        ensures { result ≡ length (evidence self.now number) }
+    /// Whether the call may be answered so. The only failure is that memory runs out.
+    #[tactic(auto, unfolding(cluster_model::specs::Answers::can_answer))]
+    pub(crate) fn can_answer(&self, alloc: Global, answer: &AnswerEvent) -> Result<bool, NoMemory>
+        ensures { IfOk result (λ may. may ≡ can_answer self.now answer.now) }
     {
-        let _ = &self.read;
-        count_for(&self.units, number)
-    }
-
-    /// Whether the call may be answered so.
-    pub(crate) fn can_answer(&self, answer: &AnswerEvent) -> bool
-        ensures { result ≡ can_answer self.now answer.now }
-    {
-        match self.call(answer.call) {
-            None => false,
-            Some(call) => {
-                if !call.is_unanswered() {
-                    return false;
-                }
-                if !self.is_complete(answer.call) {
-                    return false;
-                }
-                is_that_count(&answer.outcome, self.count(answer.call))
-            }
+        let Some(call) = self.call(answer.call) else {
+            return Ok(false);
+        };
+        if !call.is_unanswered() {
+            return Ok(false);
+        }
+        match self.outcome(alloc, answer.call, call)? {
+            None => Ok(false),
+            Some(outcome) => Ok(same_outcome(&answer.outcome, &outcome)),
         }
     }
 
     /// The call is answered. After want of memory the core is as before.
-    pub(crate) fn answer(&mut self, answer: &AnswerEvent) -> Result<(), NoMemory>
+    pub(crate) fn answer(&mut self, alloc: Global, answer: &AnswerEvent) -> Result<(), NoMemory>
         requires { can_answer self.old answer.now ≡ true }
         ensures ok { OnOk result (self.new ≡ answered self.old answer.now) }
         ensures err { OnErr result (self.new ≡ self.old) }
     {
-        let call = match self.call(answer.call) {
-            Some(call) => *call,
-            None => unreachable!(),
-        };
-        let call = call.with_count(count_in(&answer.outcome));
-        self.calls.insert(answer.call.number(), call)?;
+        let outcome = answer.outcome.copy(alloc)?;
+        self.calls.answer(answer.call, outcome);
         Ok(())
     }
-}
 
-/// How many entries the ended units of the call have read.
-fn count_for(units: &[Unit], number: CallId) -> u64
-    requires { read_by units.now ≤ MOST_READ }
-    ensures { result ≡ read_for number units.now }
-{
-    let mut count = 0u64;
-    for unit in units {
-        if counts_for(unit, number) {
-            count += unit.entries().len() as u64;
+    /// The outcome of the call at this moment. None comes exactly where it has none yet. The only
+    /// failure is that memory runs out.
+    #[tactic(auto, unfolding(cluster_model::specs::Answers::outcome_of))]
+    pub(crate) fn outcome(
+        &self,
+        alloc: Global,
+        number: CallId,
+        call: &Call,
+    ) -> Result<Option<Outcome>, NoMemory>
+        requires { call_of self.now number ≡ Some call.now }
+        ensures { IfOk result (λ outcome. outcome ≡ outcome_of self.now number call.now) }
+    {
+        if !self.store.is_live(call.originator()) {
+            return Ok(Some(Outcome::OriginatorLeft));
         }
+        if let Some(segment) = first_lost(call) {
+            return Ok(Some(Outcome::SegmentLost(segment)));
+        }
+        if self.is_whole(number, call) {
+            let outcome = self.whole_outcome(alloc, number, call)?;
+            return Ok(Some(outcome));
+        }
+        Ok(self.given_up(number, call))
     }
-    count
-}
 
-/// Whether the unit is one of the call, and has ended.
-fn counts_for(unit: &Unit, number: CallId) -> bool
-    ensures { result ≡ counts_for number unit.now }
-{
-    if unit.call() != number {
-        return false;
+    /// Whether every segment is complete for the call; for a call that doesn't ask again, whether its
+    /// round was made and no unit is open.
+    fn is_whole(&self, number: CallId, call: &Call) -> bool
+        requires { call_of self.now number ≡ Some call.now }
+        ensures { result ≡ is_whole self.now number call.now }
+    {
+        if call.request().guarantee.asks_again() {
+            return self.all_complete(number);
+        }
+        if call.rounds() == 0 {
+            return false;
+        }
+        !self.has_open(number)
     }
-    unit.is_ended()
-}
 
-/// Whether the outcome is this count.
-fn is_that_count(outcome: &Outcome, count: u64) -> bool
-    ensures { result ≡ same_outcome outcome.now (counted count) }
-{
-    match outcome {
-        Outcome::Value(Answer::Count(other)) => *other == count,
-        _ => false,
+    /// The outcome of a call that is whole: the value of its pipeline over its evidence, or the end
+    /// of a walk. The only failure is that memory runs out.
+    fn whole_outcome(&self, alloc: Global, number: CallId, call: &Call) -> Result<Outcome, NoMemory>
+        requires { call_of self.now number ≡ Some call.now }
+        ensures { IfOk result (λ outcome. outcome ≡ whole_outcome self.now number call.now) }
+    {
+        if call.is_walk() {
+            return Ok(Outcome::Ended);
+        }
+        let evidence = self.evidence(alloc, number, call)?;
+        let answer = run_plain_pipeline(alloc, &call.request().pipeline, &evidence)?;
+        Ok(Outcome::Value(answer))
     }
-}
 
-/// The count that the outcome is; 0 where it is none.
-fn count_in(outcome: &Outcome) -> u64
-    ensures { result ≡ count_in outcome.now }
-{
-    match outcome {
-        Outcome::Value(Answer::Count(count)) => *count,
-        _ => 0,
+    /// What counts for the call. The only failure is that memory runs out.
+    fn evidence(&self, alloc: Global, number: CallId, call: &Call) -> Result<Entries, NoMemory>
+        requires { call_of self.now number ≡ Some call.now }
+        ensures { IfOk result (λ entries. entries.list ≡ evidence_of self.now number call.now) }
+    {
+        let entries = self.calls.evidence(alloc, number)?;
+        Ok(entries)
+    }
+
+    /// The least segment that is incomplete for the call.
+    fn first_incomplete(&self, number: CallId) -> Option<SegmentId>
+        ensures { result ≡ first_of (incomplete self.now number) }
+    {
+        self.calls.incomplete_from(number, SegmentId::new(0))
+    }
+
+    /// That the call gives up, where it asks again, all granted rounds were made and no unit is open.
+    fn given_up(&self, number: CallId, call: &Call) -> Option<Outcome>
+        requires { call_of self.now number ≡ Some call.now }
+        ensures { result ≡ given_up self.now number call.now (first_of (incomplete self.now number)) }
+    {
+        let suspect = self.first_incomplete(number)?;
+        if !call.request().guarantee.asks_again() {
+            return None;
+        }
+        if call.rounds() != call.granted() {
+            return None;
+        }
+        if self.has_open(number) {
+            return None;
+        }
+        Some(Outcome::Again {
+            rounds: call.rounds(),
+            suspect,
+        })
     }
 }

@@ -1,7 +1,7 @@
 //! The step that an event makes.
 
-ghost use Rattle.std.specs.Prelude.{◌≡◌, ◌↔◌, true, None, Some, IfOk, IsErrOf, OnErr, OnOk};
-ghost use Rattle.fixed_topology.specs.Step.{after, allowed, changed};
+ghost use Rattle.std.specs.Prelude.{◌≡◌, true, None, Some, IfOk, IsErrOf, OnErr, OnOk};
+ghost use Rattle.cluster_model.specs.Step.{after, allowed, changed};
 
 use crate::apply_fault::ApplyFault;
 use crate::cluster::Core;
@@ -29,14 +29,23 @@ impl Core {
         ensures { IfOk result (λ may. may ≡ allowed self.now event.now) }
     {
         match event {
-            Event::Write(write) => Ok(self.can_write(write.get())),
+            Event::Write(write) => Ok(self.store.can_write(write.get())),
+            Event::Erase(erase) => Ok(self.store.can_erase(erase.get())),
+            Event::Tick { ticks } => Ok(self.store.can_tick(*ticks)),
+            Event::Join { node } => Ok(self.store.can_join(*node)),
+            Event::Depart { node } => Ok(self.store.can_depart(*node)),
+            Event::Announce(topology) => self.store.can_announce(alloc, topology.get()),
+            Event::Install { node, id } => Ok(self.store.can_install(*node, *id)),
+            Event::Copy(copy) => self.store.can_copy(alloc, copy.get()),
+            Event::Land { receiver, segment } => Ok(self.store.can_land(*receiver, *segment)),
             Event::Invoke(invoke) => Ok(self.can_invoke(invoke.get())),
-            Event::Round(round) => Ok(self.can_round(round.get())),
+            Event::Round(round) => self.can_round(alloc, round.get()),
             Event::Begin { unit, runs } => Ok(self.can_begin(*unit, *runs)),
             Event::Scan(scan) => self.can_scan(alloc, scan.get()),
+            Event::Fetch(fetch) => self.can_fetch(alloc, fetch.get()),
+            Event::Take(take) => self.can_take(alloc, take.get()),
             Event::Done { unit } => Ok(self.can_end(*unit)),
-            Event::Answer(answer) => Ok(self.can_answer(answer.get())),
-            _ => Ok(false),
+            Event::Answer(answer) => self.can_answer(alloc, answer.get()),
         }
     }
 
@@ -49,19 +58,37 @@ impl Core {
     {
         match event {
             Event::Write(write) => self.write(alloc, write.get()),
-            Event::Invoke(invoke) => self.invoke(invoke.get()),
+            Event::Erase(erase) => self.erase(alloc, erase.get()),
+            Event::Tick { ticks } => {
+                self.tick(*ticks);
+                Ok(())
+            }
+            Event::Join { node } => self.join(alloc, *node),
+            Event::Depart { node } => {
+                self.depart(*node);
+                Ok(())
+            }
+            Event::Announce(topology) => self.announce(alloc, topology.get()),
+            Event::Install { node, id } => {
+                self.install(*node, *id);
+                Ok(())
+            }
+            Event::Copy(copy) => self.copy(alloc, copy.get()),
+            Event::Land { receiver, segment } => self.land(alloc, *receiver, *segment),
+            Event::Invoke(invoke) => self.invoke(alloc, invoke.get()),
             Event::Round(round) => self.round(alloc, round.get()),
-            Event::Begin { unit, runs: _ } => {
-                self.begin(*unit);
+            Event::Begin { unit, runs } => {
+                self.begin(*unit, *runs);
                 Ok(())
             }
             Event::Scan(scan) => self.scan(alloc, scan.get()),
+            Event::Fetch(fetch) => self.fetch(alloc, fetch.get()),
+            Event::Take(take) => self.take_batch(alloc, take.get()),
             Event::Done { unit } => {
                 self.end(*unit);
                 Ok(())
             }
-            Event::Answer(answer) => self.answer(answer.get()),
-            _ => Ok(()),
+            Event::Answer(answer) => self.answer(alloc, answer.get()),
         }
     }
 }

@@ -1,6 +1,6 @@
--- What was read is refused for its length, or for what can't be run yet; it is no script of a live run.
-use Rattle.std.proofs.Common.{refl, sym, ap, ◌∙◌, Ok, Err, inl, inr}
-use Rattle.grid_script.specs.declared.reason.Reason.TheVariants.{NotYet, TooLong}
+-- What was read is refused for its length; it is no script of a live run.
+use Rattle.std.proofs.Common.{refl, ap, ◌∙◌, Ok, Err, inl}
+use Rattle.grid_script.specs.declared.reason.Reason.TheVariants.{TooLong}
 use Rattle.grid_script.specs.declared.script_kind.ScriptKind.TheVariants as kinds
 use Rattle.grid_script.specs.Reading.{script_of}
 use Rattle.grid_shell.proofs.Scripts.{never_live, was_read}
@@ -20,25 +20,3 @@ unreachable-requires g c =
     let bytes = c.as_slice.result.now in
     never_live bytes c.in-Live.field-0
     (was_read c.read_script.result c.in-Ok-read_script.script (script_of kinds.Step bytes) c.in-Ok-read_script.is c.read_script.ensures ∙ ap Ok c.in-Live.is)
-
-pub returns-clause-refused : goal.returns-clause-refused
-returns-clause-refused g c = λ is.
-    let refused = c.run_script.ensures.refused is in
-    let bytes = c.as_slice.result.now in
-    let read =
-    was_read c.read_script.result c.in-Ok-read_script.script (script_of kinds.Step bytes) c.in-Ok-read_script.is c.read_script.ensures ∙ ap Ok c.in-Step.is in (
-      0,
-      NotYet,
-      inr (inr (
-        refl,
-        refl,
-        (
-          c.in-Ok.bytes.list,
-          c.in-Step.script,
-          (c.in-Ok.ensures.all, c.in-Ok.ensures.short),
-          ap (script_of kinds.Step) (sym c.as_slice.ensures) ∙ read,
-          refused.0,
-        ),
-      )),
-      refused.1,
-    )

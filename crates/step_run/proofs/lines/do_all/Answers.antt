@@ -1,5 +1,5 @@
 -- The line's first event and those that follow it, or its note.
-use Rattle.fixed_topology.specs.Commands.{chosen}
+use Rattle.cluster_model.specs.Commands.{chosen}
 use Rattle.step_run.specs.Outcomes.{running}
 use Rattle.step_run.specs.StepRuns.{ENOUGH, noted, repeated}
 use Rattle.step_run.proofs.Fronts.{repeated-grows}

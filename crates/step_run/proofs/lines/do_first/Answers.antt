@@ -1,7 +1,7 @@
 -- The line's event, or its note.
 use Rattle.std.proofs.Common.{refl, ap, sym, subst, ◌∙◌}
 use Rattle.grid_event.specs.Histories.{History}
-use Rattle.fixed_topology.specs.Commands.{chosen}
+use Rattle.cluster_model.specs.Commands.{chosen}
 use Rattle.step_run.specs.Outcomes.{IsFront, running}
 use Rattle.step_run.specs.StepRuns.{Progress, noted}
 use Rattle.step_run.proofs.Fronts.{noted-grows, on_err, on_ok, same_front, same_running}

@@ -1,6 +1,6 @@
 -- Each time is one step of what is repeated.
 use Rattle.std.proofs.Common.{◌≡◌, ◌<◌, ◌+◌, ◌-◌, ap, sym, subst, ◌∙◌, arith}
-use Rattle.fixed_topology.specs.Commands.{chosen}
+use Rattle.cluster_model.specs.Commands.{chosen}
 use Rattle.step_run.specs.Outcomes.{LeavesAt, running}
 use Rattle.step_run.specs.StepRuns.{ENOUGH, Progress, repeated}
 use Rattle.step_run.proofs.Resuming.{after_step, after_step-none, after_step-some, repeated-end, repeated-leaves, repeated-next}

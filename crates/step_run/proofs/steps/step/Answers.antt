@@ -1,7 +1,7 @@
 -- The chosen event may happen.
 use Rattle.std.proofs.Common.{sym, ◌∙◌}
-use Rattle.fixed_topology.proofs.ChosenSteps.{chosen_may}
-use Rattle.fixed_topology.specs.Commands.{chosen}
+use Rattle.cluster_model.proofs.ChosenSteps.{chosen_may}
+use Rattle.cluster_model.specs.Commands.{chosen}
 use Rattle.step_run.specs.Outcomes.{running}
 use Rattle.step_run.proofs.Fronts.{step-grows}
 use Rattle.step_run.proofs.steps.step.Goals as goal

@@ -9,4 +9,4 @@ pub overflow_add-self : goal.overflow_add-self
 overflow_add-self c =
     let more : c.self.inside.rounds < granted_rounds c.self.inside.request.guarantee c.self.inside.request.rounds =
     subst (λ (call : Call). call.rounds < granted call) (sym c.self.view_is) c.requires in
-    omega (arith, granted_fits c.self.inside.request c.self.invariant.stated, more)
+    omega (arith, granted_fits c.self.inside.request c.self.invariant.keys.stated, more)

@@ -1,20 +1,22 @@
 use Rattle.std.proofs.Common.{◌≡◌, true, Some, None, refl, sym, subst, ap, ◌∙◌, arith}
+use Rattle.std.specs.Option.{option_map}
 use Rattle.std.specs.FinMap as map_of
 use Rattle.std.specs.Prelude.{slice_get, slice_set}
 use Rattle.cluster_model.specs.State.{Unit, with_unit}
-use Rattle.cluster_calls.specs.Calling.{Calling, flies, is_one, taking_of, unit_in, with_call, with_taken}
+use Rattle.cluster_calls.specs.Calling.{Calling, call_in, flies, is_one, taking_of, unit_in, with_call, with_taken}
 use Rattle.cluster_calls.specs.Insides.{calling_of}
 use Rattle.cluster_calls.specs.Rows.{calls_in, changes_row, with_row_taken}
+use Rattle.cluster_calls.specs.declared.row.Row.{Row}
 use Rattle.cluster_calls.proofs.CallsLaws.{changed_kept, numbers, read_unit, seen_alike}
 use Rattle.cluster_calls.proofs.ListLaws.{within_get}
 use Rattle.cluster_calls.proofs.RightLaws.{after_call, after_same, there, with_unit-there}
-use Rattle.cluster_calls.proofs.RowTables.{calls_in-changed}
+use Rattle.cluster_calls.proofs.RowTables.{calls_in-changed, get-calls_in}
 use Rattle.cluster_calls.proofs.calls.Calls.take.Goals as goal
 
 pub index-read-requires : goal.index-read-requires
 index-read-requires c =
     let units = c.self.inside.units.items in
-    let may : is_one flies (unit_in units c.args.unit) ≡ true = subst (λ (x : Calling). is_one flies (unit_in x.units c.args.unit) ≡ true) (sym c.self.view_is) c.requires in
+    let may : is_one flies (unit_in units c.args.unit) ≡ true = subst (λ (x : Calling). is_one flies (unit_in x.units c.args.unit) ≡ true) (sym c.self.view_is) c.requires.flies in
     let h = there units c.args.unit flies (numbers c.self.inside c.self.invariant) may in
     let at : slice_get units c.place_of-place.result ≡ Some h.unit = ap (slice_get units) c.place_of-place.ensures ∙ h.at in
     omega (arith, within_get units c.place_of-place.result h.unit at, c.self.inside.units.ok.0)
@@ -22,15 +24,29 @@ index-read-requires c =
 pub index_mut-unit-requires : goal.index_mut-unit-requires
 index_mut-unit-requires c =
     let units = c.self.inside.units.items in
-    let may : is_one flies (unit_in units c.args.unit) ≡ true = subst (λ (x : Calling). is_one flies (unit_in x.units c.args.unit) ≡ true) (sym c.self.view_is) c.requires in
+    let may : is_one flies (unit_in units c.args.unit) ≡ true = subst (λ (x : Calling). is_one flies (unit_in x.units c.args.unit) ≡ true) (sym c.self.view_is) c.requires.flies in
     let h = there units c.args.unit flies (numbers c.self.inside c.self.invariant) may in
     let at : slice_get units c.place_of-place.result ≡ Some h.unit = ap (slice_get units) c.place_of-place.ensures ∙ h.at in
     omega (arith, within_get units c.place_of-place.result h.unit at, c.self.inside.units.ok.0)
 
+pub take-requires : goal.take-requires
+take-requires c = λ row e.
+    let units = c.self.inside.units.items in
+    let table = c.self.inside.table in
+    let may : is_one flies (unit_in units c.args.unit) ≡ true = subst (λ (x : Calling). is_one flies (unit_in x.units c.args.unit) ≡ true) (sym c.self.view_is) c.requires.flies in
+    let h = there units c.args.unit flies (numbers c.self.inside c.self.invariant) may in
+    let at : slice_get units c.place_of-place.result ≡ Some h.unit = ap (slice_get units) c.place_of-place.ensures ∙ h.at in
+    let lent = read_unit units c.place_of-place.result h.unit c.index-read.result.now at c.index-read.ensures in
+    let call = c.call-call.ensures ∙ ap (λ (u : Unit). u.work.call) lent in
+    c.requires.given h.unit row.call
+    (subst (λ (x : Calling). unit_in x.units c.args.unit ≡ Some h.unit) c.self.view_is h.found)
+    (subst (λ (x : Calling). call_in x h.unit.work.call ≡ Some row.call) c.self.view_is
+    (get-calls_in table h.unit.work.call ∙ ap (option_map (λ (r : Row). r.call)) (ap (map_of.get table) (sym call) ∙ e)))
+
 pub invariant_of-self-2 : goal.invariant_of-self-2
 invariant_of-self-2 c =
     let units = c.self.inside.units.items in
-    let may : is_one flies (unit_in units c.args.unit) ≡ true = subst (λ (x : Calling). is_one flies (unit_in x.units c.args.unit) ≡ true) (sym c.self.view_is) c.requires in
+    let may : is_one flies (unit_in units c.args.unit) ≡ true = subst (λ (x : Calling). is_one flies (unit_in x.units c.args.unit) ≡ true) (sym c.self.view_is) c.requires.flies in
     let h = there units c.args.unit flies (numbers c.self.inside c.self.invariant) may in
     let at : slice_get units c.place_of-place.result ≡ Some h.unit = ap (slice_get units) c.place_of-place.ensures ∙ h.at in
     let is = read_unit units c.place_of-place.result h.unit c.index_mut-unit.result.now at c.index_mut-unit.ensures.value in
@@ -51,7 +67,7 @@ invariant_of-self-2 c =
 pub returns-clause-ok : goal.returns-clause-ok
 returns-clause-ok c =
     let units = c.self.inside.units.items in
-    let may : is_one flies (unit_in units c.args.unit) ≡ true = subst (λ (x : Calling). is_one flies (unit_in x.units c.args.unit) ≡ true) (sym c.self.view_is) c.requires in
+    let may : is_one flies (unit_in units c.args.unit) ≡ true = subst (λ (x : Calling). is_one flies (unit_in x.units c.args.unit) ≡ true) (sym c.self.view_is) c.requires.flies in
     let h = there units c.args.unit flies (numbers c.self.inside c.self.invariant) may in
     let at : slice_get units c.place_of-place.result ≡ Some h.unit = ap (slice_get units) c.place_of-place.ensures ∙ h.at in
     let is = read_unit units c.place_of-place.result h.unit c.index_mut-unit.result.now at c.index_mut-unit.ensures.value in

@@ -1,8 +1,9 @@
-use Rattle.std.proofs.Common.{refl, IsSome, subst, ap, ◌∙◌}
+use Rattle.std.proofs.Common.{refl, IsSome, sym, subst, ap, ◌∙◌}
 use Rattle.std.proofs.lemmas.Result.{on_err_weaker, on_ok_weaker}
+use Rattle.std.specs.FinMap as map_of
 use Rattle.cluster_model.specs.State.{Call}
-use Rattle.cluster_calls.specs.Rows.{changes_row, with_row_taken}
-use Rattle.cluster_calls.proofs.RowTables.{rows_changed, rows_in, rows_restored, rows_unchanged}
+use Rattle.cluster_calls.specs.Rows.{Rows, changes_row, with_row_taken}
+use Rattle.cluster_calls.proofs.RowTables.{get_rows, rows_changed, rows_in, rows_restored, rows_unchanged}
 use Rattle.cluster_calls.proofs.table.Table.take.Goals as goal
 
 pub returns-in-Some-clause-ok : goal.returns-in-Some-clause-ok
@@ -41,3 +42,8 @@ returns-clause-ok c =
     ∙ rows_unchanged es c.number.result change c.in_default.ensures.value
     ∙ ap (λ n. changes_row n change (rows_in es)) c.number.ensures
     ∙ ap (changes_row c.args.number change) c.self.view_is
+
+pub take-requires : goal.take-requires
+take-requires c =
+    c.requires c.in-Some.row.now
+    (sym (c.in-Some.ensures.value ∙ sym (get_rows c.self.inside.rows.entries c.number.result) ∙ ap (λ (x : Rows). map_of.get x c.number.result) c.self.view_is ∙ ap (map_of.get c.args.self.now) c.number.ensures))

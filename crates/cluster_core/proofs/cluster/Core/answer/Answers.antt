@@ -1,26 +1,23 @@
--- The call has its outcome in both maps.
-use Rattle.std.proofs.Common.{◌≡◌, Some, ap, sym, subst, ◌∙◌}
-use Rattle.std.specs.Ordering.{nat_cmp}
-use Rattle.std.specs.Cmp.{nat_cmp_total}
-use Rattle.cluster_core.specs.Insides.{state_of}
-use Rattle.cluster_core.proofs.AnswerLaws.{answer_counts, answered-there, no_answer}
-use Rattle.cluster_core.proofs.Trees.{insert-tree}
+-- The call has its outcome.
+use Rattle.std.proofs.Common.{Some, ap, ◌∙◌}
+use Rattle.grid_event.specs.declared.event.Event.TheVariants as events
+use Rattle.grid_event.specs.declared.outcome.Outcome.{Outcome}
+use Rattle.cluster_calls.specs.Calling.{Calling, changes_call}
+use Rattle.cluster_model.specs.State.{Call}
+use Rattle.cluster_core.proofs.AnswerRows.{answer_seen}
+use Rattle.cluster_core.proofs.Rows.{core_next}
 use Rattle.cluster_core.proofs.cluster.Core.answer.Goals as goal
-use Rattle.fixed_topology.specs.State.{State, call_of}
-use Rattle.fixed_topology.specs.Answers.{answered}
 
-pub unreachable-requires : goal.unreachable-requires
-unreachable-requires c = no_answer c.args.self.now c.args.answer.now c.in-None.ensures.call c.requires
+pub invariant_of-self : goal.invariant_of-self
+invariant_of-self c =
+    let a = c.args.answer.now in
+    let is = c.answer.ensures ∙ ap (λ (outcome : Outcome). changes_call a.call (λ (call : Call). record call { outcome = Some outcome }) c.self.inside.calls) c.in_ok-outcome.ensures in
+    core_next c.self.inside (record c.self.inside { calls = c.answer.new.self }) c.args.self.now (events.Answer a) c.self.invariant c.self.view_is c.requires
+    (answer_seen c.self.inside c.args.self.now a c.answer.new.self c.self.view_is is)
+    (ap (λ (calls : Calling). calls.segments) is)
 
 pub returns-clause-ok : goal.returns-clause-ok
 returns-clause-ok c =
-    let st = state_of c.self.inside in
     let a = c.args.answer.now in
-    let call = c.in-Some.call.now in
-    let there = subst (λ (s : State). Some call ≡ call_of s a.call) (sym c.self.view_is) c.in-Some.ensures.call in
-    let counts = answer_counts c.args.self.now c.call.ensures.one a call c.in-Some.ensures.call c.with_count-call.ensures.here c.requires in
-    ap (λ calls. record st { calls = calls })
-    (insert-tree nat_cmp nat_cmp_total c.self.inside.calls.entries c.insert.new.self.entries c.number.result c.with_count-call.result
-    c.self.invariant.calls_ordered c.insert.ensures.ordered c.in_ok-insert.ensures.entries)
-    ∙ rw (c.number.ensures, c.with_count-call.ensures.count, c.count_in.ensures, counts)
-    (sym (answered-there st a call there) ∙ ap (λ (s : State). answered s a) c.self.view_is)
+    let is = c.answer.ensures ∙ ap (λ (outcome : Outcome). changes_call a.call (λ (call : Call). record call { outcome = Some outcome }) c.self.inside.calls) c.in_ok-outcome.ensures in
+    answer_seen c.self.inside c.args.self.now a c.answer.new.self c.self.view_is is

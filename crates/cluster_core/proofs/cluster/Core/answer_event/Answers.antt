@@ -1,29 +1,14 @@
--- A call that is unanswered and complete has the count of its evidence.
-use Rattle.std.proofs.Common.{ℕ, Some, true, false, ap, ◌∙◌}
+-- The answer of a call is there where it has an outcome.
+use Rattle.std.proofs.Common.{Some, ap, sym, ◌∙◌}
 use Rattle.grid_event.specs.declared.call_events.AnswerEvent.{AnswerEvent}
 use Rattle.grid_event.specs.declared.event.Event.TheVariants as events
-use Rattle.cluster_core.specs.Views.{counted}
-use Rattle.cluster_core.proofs.ChoiceLaws.{answer_event-none, answer_event-some}
+use Rattle.cluster_core.proofs.AnswerRows.{answer_over, answer_there}
 use Rattle.cluster_core.proofs.cluster.Core.answer_event.Goals as goal
-use Rattle.fixed_topology.specs.Calls.{is_complete}
-
-pub returns-in-None : goal.returns-in-None
-returns-in-None c = answer_event-none c.args.self.now c.args.number c.in-None.ensures.call
 
 pub returns-then-not-is_unanswered : goal.returns-then-not-is_unanswered
-returns-then-not-is_unanswered c =
-    let st = c.args.self.now in
-    answer_event-some st c.call.ensures.one c.args.number c.in-Some.call.now false (is_complete st c.args.number 0) c.in-Some.ensures.call c.is_unanswered.ensures.here
-    c.if-not-is_unanswered.ensures.unanswered (λ i. is_complete st c.args.number 0)
+returns-then-not-is_unanswered c = sym (answer_over c.args.self.now c.args.number c.in-Some.call.now (sym c.in-Some.ensures) (sym c.if-not-is_unanswered.ensures))
 
-pub returns-then-not-is_complete : goal.returns-then-not-is_complete
-returns-then-not-is_complete c =
-    answer_event-some c.args.self.now c.call.ensures.one c.args.number c.in-Some.call.now true false c.in-Some.ensures.call c.is_unanswered.ensures.here
-    c.if-not-is_unanswered.ensures.unanswered c.if-not-is_complete.ensures
-
-pub returns-in_ok-answer-in-Some : goal.returns-in_ok-answer-in-Some
-returns-in_ok-answer-in-Some c =
-    ap (λ (answer : AnswerEvent). Some (events.Answer answer))
-    (c.in_ok-answer-in-Some.ensures ∙ ap (λ (n : ℕ). record { call = c.args.number; outcome = counted n }) c.count.ensures)
-    ∙ answer_event-some c.args.self.now c.call.ensures.one c.args.number c.in-Some.call.now true true c.in-Some.ensures.call c.is_unanswered.ensures.here
-    c.if-not-is_unanswered.ensures.unanswered c.if-not-is_complete.ensures
+pub returns : goal.returns
+returns c =
+    ap (λ (a : AnswerEvent). Some (events.Answer a)) c.in_ok-answer.ensures
+    ∙ sym (answer_there c.args.self.now c.args.number c.in-Some.call.now c.in-Some-2.outcome (sym c.in-Some.ensures) (sym c.if-not-is_unanswered.ensures) (sym c.in_ok-outcome.ensures ∙ c.in-Some-2.is))

@@ -1,37 +1,27 @@
--- The unit at its place runs.
-use Rattle.std.proofs.Common.{◌≡◌, true, ap, sym, ◌∙◌, subst, length, arith}
-use Rattle.cluster_core.specs.Insides.{state_of}
-use Rattle.cluster_core.proofs.UnitLaws.{begin_there, begun-there}
-use Rattle.cluster_core.proofs.UnitWrites.{core_with, read_there, state_with}
+-- The calls have begun the unit.
+use Rattle.std.proofs.Common.{sym, ap, ◌∙◌}
+use Rattle.topology_coord.specs.Coordination.{installed_id}
+use Rattle.cluster_model.specs.State.{State, unit_of}
+use Rattle.cluster_calls.specs.Calling.{is_one, may_begin}
+use Rattle.cluster_core.proofs.UnitReads.{begin_none}
+use Rattle.cluster_core.proofs.UnitRows.{begin_may, begin_row}
 use Rattle.cluster_core.proofs.cluster.Core.begin.Goals as goal
-use Rattle.fixed_topology.specs.State.{Running, State, Unit}
-use Rattle.fixed_topology.specs.Units.{begun, can_begin}
 
-pub overflow_sub-place : goal.overflow_sub-place
-overflow_sub-place c = let there = begin_there c.args.self.now c.args.number true c.requires in omega (arith, there.positive, c.number.ensures)
+pub unreachable-requires : goal.unreachable-requires
+unreachable-requires c = begin_none c.args.self.now c.args.number c.args.runs (sym c.in-None.ensures) c.requires
 
-pub index_mut-unit-requires : goal.index_mut-unit-requires
-index_mut-unit-requires c =
-    let st = state_of c.self.inside in
-    let there = begin_there st c.args.number true (subst (λ (s : State). can_begin s c.args.number true ≡ true) (sym c.self.view_is) c.requires) in
-    omega (arith, there.within, c.number.ensures, c.self.inside.units.ok.0)
+pub begin-requires : goal.begin-requires
+begin-requires c =
+    ap (λ (st : State). is_one (may_begin c.installed_id-at.result) (unit_of st c.args.number)) c.self.view_is
+    ∙ begin_may c.args.self.now c.args.number c.args.runs c.in-Some.unit.now c.installed_id-at.result (sym c.in-Some.ensures)
+    (c.installed_id-at.ensures ∙ ap (λ n. installed_id c.args.self.now.coord n) c.node.ensures) c.requires
 
 pub invariant_of-self : goal.invariant_of-self
 invariant_of-self c =
-    let st = state_of c.self.inside in
-    let there = begin_there st c.args.number true (subst (λ (s : State). can_begin s c.args.number true ≡ true) (sym c.self.view_is) c.requires) in
-    let unit = rw c.number.ensures at c.index_mut-unit.ensures.value in
-    let entries =
-    ap (λ (u : Unit). length u.entries) (c.begin.ensures ∙ ap (λ (u : Unit). record u { stage = Running }) (read_there st c.args.number there c.index_mut-unit.result.now unit)) in
-    rw c.number.ensures
-    (core_with c.self.inside c.self.invariant c.args.number there c.begin.new.self c.self.inside.read (omega (arith, entries)) c.self.invariant.few)
+    (begin_row c.self.inside c.args.self.now c.begin.new.self c.args.number c.args.runs c.in-Some.unit.now c.installed_id-at.result c.self.invariant c.self.view_is (sym c.in-Some.ensures)
+    (c.installed_id-at.ensures ∙ ap (λ n. installed_id c.args.self.now.coord n) c.node.ensures) c.requires c.begin.ensures).core
 
 pub returns : goal.returns
 returns c =
-    let st = state_of c.self.inside in
-    let there = begin_there st c.args.number true (subst (λ (s : State). can_begin s c.args.number true ≡ true) (sym c.self.view_is) c.requires) in
-    let unit = rw c.number.ensures at c.index_mut-unit.ensures.value in
-    rw c.number.ensures
-    (state_with c.self.inside c.args.number there (λ (u : Unit). record u { stage = Running }) c.index_mut-unit.result.now c.begin.new.self unit c.begin.ensures
-    ∙ sym (begun-there st c.args.number there)
-    ∙ ap (λ (s : State). begun s c.args.number) c.self.view_is)
+    (begin_row c.self.inside c.args.self.now c.begin.new.self c.args.number c.args.runs c.in-Some.unit.now c.installed_id-at.result c.self.invariant c.self.view_is (sym c.in-Some.ensures)
+    (c.installed_id-at.ensures ∙ ap (λ n. installed_id c.args.self.now.coord n) c.node.ensures) c.requires c.begin.ensures).seen

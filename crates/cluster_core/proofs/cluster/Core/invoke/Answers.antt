@@ -1,25 +1,26 @@
--- The call goes to its place in both maps.
-use Rattle.std.proofs.Common.{◌≡◌, true, ap, sym, subst, ◌∙◌}
-use Rattle.std.specs.Ordering.{nat_cmp}
-use Rattle.std.specs.Cmp.{nat_cmp_total}
-use Rattle.cluster_core.specs.Insides.{state_of}
-use Rattle.cluster_core.proofs.OneNode.{invoked-one, request-one}
-use Rattle.cluster_core.proofs.Seen.{one_of}
-use Rattle.cluster_core.proofs.Trees.{insert-tree}
+-- The call is there.
+use Rattle.std.proofs.Common.{ap, ◌∙◌}
+use Rattle.grid_event.specs.declared.event.Event.TheVariants as events
+use Rattle.grid_event.specs.declared.request.Request.{Request}
+use Rattle.cluster_calls.specs.Calling.{Calling, new_call, puts_call}
+use Rattle.cluster_model.specs.State.{State, call_of}
+use Rattle.cluster_core.proofs.RoundRows.{invoke_fresh, invoke_seen}
+use Rattle.cluster_core.proofs.Rows.{core_next}
 use Rattle.cluster_core.proofs.cluster.Core.invoke.Goals as goal
-use Rattle.fixed_topology.specs.State.{State}
-use Rattle.fixed_topology.specs.Calls.{can_invoke, invoked}
 
-pub new-requires : goal.new-requires
-new-requires c = request-one c.args.self.now c.args.invoke.now c.requires
+pub invoke-requires : goal.invoke-requires
+invoke-requires c = ap (λ (st : State). call_of st c.args.invoke.now.call) c.self.view_is ∙ invoke_fresh c.args.self.now c.args.invoke.now c.requires
+
+pub invariant_of-self-2 : goal.invariant_of-self-2
+invariant_of-self-2 c =
+    let i = c.args.invoke.now in
+    let is = c.in_ok-invoke.ensures.ok ∙ ap (λ (request : Request). puts_call i.call (new_call i.node request) c.self.inside.calls) c.in_ok-request.ensures in
+    core_next c.self.inside (record c.self.inside { calls = c.invoke.new.self }) c.args.self.now (events.Invoke i) c.self.invariant c.self.view_is c.requires
+    (invoke_seen c.self.inside c.args.self.now i c.invoke.new.self c.self.view_is is)
+    (ap (λ (calls : Calling). calls.segments) is)
 
 pub returns-clause-ok : goal.returns-clause-ok
 returns-clause-ok c =
-    let st = state_of c.self.inside in
-    let may = subst (λ (s : State). can_invoke s c.args.invoke.now ≡ true) (sym c.self.view_is) c.requires in
-    ap (λ calls. record st { calls = calls })
-    (insert-tree nat_cmp nat_cmp_total c.self.inside.calls.entries c.insert.new.self.entries c.number.result c.new.result
-    c.self.invariant.calls_ordered c.insert.ensures.ordered c.in_ok-insert.ensures.entries)
-    ∙ rw (c.number.ensures, c.new.ensures)
-    (sym (invoked-one st (one_of c.self.inside c.self.invariant) c.args.invoke.now may)
-    ∙ ap (λ (s : State). invoked s c.args.invoke.now) c.self.view_is)
+    let i = c.args.invoke.now in
+    let is = c.in_ok-invoke.ensures.ok ∙ ap (λ (request : Request). puts_call i.call (new_call i.node request) c.self.inside.calls) c.in_ok-request.ensures in
+    invoke_seen c.self.inside c.args.self.now i c.invoke.new.self c.self.view_is is

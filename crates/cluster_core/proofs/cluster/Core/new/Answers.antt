@@ -1,9 +1,13 @@
--- No entry, no unit and no call is there.
-use Rattle.std.proofs.Common.{refl}
-use Rattle.std.specs.Ordering.{nat_cmp}
-use Rattle.fixed_topology.specs.Cells.{cell_cmp}
-use Rattle.cluster_core.proofs.Trees.{empty-tree}
+-- The start is reached by no event.
+use Rattle.cluster_laws.proofs.CauseRuns.{few_segments}
+use Rattle.cluster_core.proofs.StoreRows.{first_core, first_seen}
 use Rattle.cluster_core.proofs.cluster.Core.new.Goals as goal
 
+pub new-calls-requires : goal.new-calls-requires
+new-calls-requires c = few_segments c.args.config.now c.requires
+
+pub invariant_of-result : goal.invariant_of-result
+invariant_of-result c = first_core c.args.config.now c.in_ok-store.store c.new-calls.result c.requires c.in_ok-store.ensures c.new-calls.ensures
+
 pub returns : goal.returns
-returns c = rw (c.new.ensures.empty, c.new-2.ensures.items, c.new-3.ensures.empty, empty-tree cell_cmp, empty-tree nat_cmp) refl
+returns c = first_seen c.args.config.now c.in_ok-store.store c.new-calls.result c.in_ok-store.ensures c.new-calls.ensures

@@ -1,9 +1,9 @@
--- No open unit before the place has an event.
-use Rattle.std.proofs.Common.{◌≡◌, ◌+◌, drop}
+-- No open unit before this one has an event.
+use Rattle.std.proofs.Common.{◌≡◌, drop, filter}
+use Rattle.cluster_model.specs.Commands.{first_some, open_units, unit_event}
+use Rattle.cluster_model.specs.State.{is_open_unit}
 use Rattle.cluster_core.proofs.cluster.Core.open_event.Given as goal
-use Rattle.fixed_topology.specs.Commands.{first_some, open_on, open_units, unit_event}
 
-abbrev pub invariant-loop-place : goal.invariant-loop-place
-invariant-loop-place l =
-    first_some (unit_event l.self) (open_on l.number 0 (l.place + 1) (drop l.place l.self.units))
-    ≡ first_some (unit_event l.self) (open_units l.self l.number)
+abbrev pub invariant-loop-unit : goal.invariant-loop-unit
+invariant-loop-unit l =
+    first_some (unit_event l.self) (filter is_open_unit (drop l.unit-index l.units)) ≡ first_some (unit_event l.self) (open_units l.self l.fn.number)

@@ -1,19 +1,24 @@
--- A call that is due has its next round.
-use Rattle.std.proofs.Common.{ℕ, Some, List, [], ◌∷◌, ap, ◌∙◌}
-use Rattle.grid_event.specs.declared.call_events.Ask.{Ask}
+-- The next round of a call is there where it is due.
+use Rattle.std.proofs.Common.{ℕ, ◌+◌, length, Some, ap, sym, ◌∙◌}
+use Rattle.topology_coord.specs.Coordination.{installed_id}
 use Rattle.grid_event.specs.declared.call_events.RoundEvent.{RoundEvent}
 use Rattle.grid_event.specs.declared.event.Event.TheVariants as events
-use Rattle.cluster_core.proofs.ChoiceLaws.{round_event-due, round_event-not}
+use Rattle.cluster_model.specs.Calls.{asks_from, incomplete}
+use Rattle.cluster_core.proofs.RoundRows.{round_early, round_over, round_there}
 use Rattle.cluster_core.proofs.cluster.Core.round_event.Goals as goal
+
+pub returns-then-not-call_goes_on : goal.returns-then-not-call_goes_on
+returns-then-not-call_goes_on c = sym (round_over c.args.self.now c.args.number c.in-Some.call.now (sym c.in-Some.ensures) (sym c.if-not-call_goes_on.ensures))
 
 pub returns-then-not-is_due : goal.returns-then-not-is_due
 returns-then-not-is_due c =
-    round_event-not c.args.self.now c.call.ensures.one c.args.number c.in-Some.call.now c.in-Some.ensures.call c.is_due.ensures.here.originator c.if-not-is_due.ensures.due
+    sym (round_early c.args.self.now c.args.number c.in-Some.call.now (sym c.in-Some.ensures) (sym c.if-not-call_goes_on.ensures) (sym c.if-not-is_due.ensures))
 
-pub returns-in_ok-round-in-Some : goal.returns-in_ok-round-in-Some
-returns-in_ok-round-in-Some c =
-    ap (λ (round : RoundEvent). Some (events.Round round)) c.in_ok-round-in-Some.ensures
-    ∙ ap (λ (id : ℕ). Some (events.Round (record { call = c.args.number; id = id; asks = c.in_ok-asks-in-Some.asks }))) c.new.ensures
-    ∙ ap (λ (asks : List Ask). Some (events.Round (record { call = c.args.number; id = 1; asks = asks })))
-    (c.in_ok-asks-in-Some.ensures ∙ ap (λ (ask : Ask). ask ∷ []) c.next_ask.ensures)
-    ∙ round_event-due c.args.self.now c.call.ensures.one c.args.number c.in-Some.call.now c.in-Some.ensures.call c.is_due.ensures.here.originator c.if-not-is_due.ensures.due
+pub returns : goal.returns
+returns c =
+    let st = c.args.self.now in
+    let number = c.args.number in
+    let id = c.installed_id.ensures ∙ ap (installed_id st.coord) c.originator-2.ensures in
+    let asks = c.in_ok-asks.ensures ∙ ap (λ (node : ℕ). asks_from st node (length st.units + 1) (incomplete st number)) c.originator.ensures in
+    ap (λ (r : RoundEvent). Some (events.Round r)) (c.in_ok-round.ensures ∙ (λ i. record { call = number; id = id i; asks = asks i }))
+    ∙ sym (round_there st number c.in-Some.call.now (sym c.in-Some.ensures) (sym c.if-not-call_goes_on.ensures) (sym c.if-not-is_due.ensures))

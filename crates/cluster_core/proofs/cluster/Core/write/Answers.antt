@@ -1,18 +1,12 @@
--- The copy goes to its place in both maps.
-use Rattle.std.proofs.Common.{ap, sym, ◌∙◌}
-use Rattle.cluster_core.specs.Insides.{state_of}
-use Rattle.cluster_core.proofs.CellTrees.{insert-cells}
-use Rattle.cluster_core.proofs.OneNode.{written-one}
-use Rattle.cluster_core.proofs.Seen.{one_of}
+-- The value stands at the key.
+use Rattle.cluster_core.proofs.StoreRows.{write_may, write_row}
 use Rattle.cluster_core.proofs.cluster.Core.write.Goals as goal
-use Rattle.fixed_topology.specs.State.{State}
-use Rattle.fixed_topology.specs.Writes.{written}
+
+pub write-requires : goal.write-requires
+write-requires c = write_may c.self.inside c.args.self.now c.args.write.now c.self.view_is c.requires
+
+pub invariant_of-self-2 : goal.invariant_of-self-2
+invariant_of-self-2 c = (write_row c.self.inside c.args.self.now c.args.write.now c.write.new.self c.self.invariant c.self.view_is c.requires c.in_ok-write.ensures.ok).core
 
 pub returns-clause-ok : goal.returns-clause-ok
-returns-clause-ok c =
-    ap (λ copies. record (state_of c.self.inside) { copies = copies })
-    (insert-cells c.self.inside.copies.entries c.insert.new.self.entries c.args.write.now.key _
-    c.self.invariant.copies_ordered c.insert.ensures.ordered c.in_ok-insert.ensures.entries)
-    ∙ rw c.in_ok-value.ensures
-    (sym (written-one (state_of c.self.inside) (one_of c.self.inside c.self.invariant) c.args.write.now)
-    ∙ ap (λ (st : State). written st c.args.write.now) c.self.view_is)
+returns-clause-ok c = (write_row c.self.inside c.args.self.now c.args.write.now c.write.new.self c.self.invariant c.self.view_is c.requires c.in_ok-write.ensures.ok).seen

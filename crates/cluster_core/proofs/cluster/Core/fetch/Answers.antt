@@ -1,0 +1,32 @@
+-- The calls have given the unit its batch.
+use Rattle.std.proofs.Common.{◌≡◌, Some, length, ap, ◌∙◌, arith}
+use Rattle.grid_base.specs.Portion.{Portion}
+use Rattle.grid_base.specs.declared.entry.Entry.{Entry}
+use Rattle.cluster_model.specs.State.{State, unit_of}
+use Rattle.cluster_model.specs.Units.{read_by}
+use Rattle.local_publisher.specs.Units.{extended}
+use Rattle.cluster_calls.specs.Calling.{changes_unit, is_one, may_read}
+use Rattle.cluster_core.proofs.UnitReads.{fetch_may}
+use Rattle.cluster_core.proofs.UnitRows.{fetch_row}
+use Rattle.cluster_core.proofs.cluster.Core.fetch.Goals as goal
+
+pub fetch-requires-clause-may : goal.fetch-requires-clause-may
+fetch-requires-clause-may c =
+    ap (λ (st : State). is_one may_read (unit_of st c.args.fetch.now.unit)) c.self.view_is ∙ (fetch_may c.args.self.now c.args.fetch.now c.requires).may
+
+pub fetch-requires-clause-few : goal.fetch-requires-clause-few
+fetch-requires-clause-few c =
+    let few = (fetch_may c.args.self.now c.args.fetch.now c.requires).few in
+    let units : read_by c.self.inside.calls.units ≡ read_by c.args.self.now.units = ap (λ (st : State). read_by st.units) c.self.view_is in
+    let batch = ap (λ (b : Portion Entry). length b.entries) c.in_ok-batch.ensures in
+    omega (arith, few, units, batch)
+
+pub invariant_of-self-2 : goal.invariant_of-self-2
+invariant_of-self-2 c =
+    (fetch_row c.self.inside c.args.self.now c.fetch.new.self c.args.fetch.now c.self.invariant c.self.view_is c.requires
+    (c.in_ok-fetch.ensures.ok ∙ ap (λ (b : Portion Entry). changes_unit c.args.fetch.now.unit (λ u. record { work = extended u.work b; flying = Some b.entries }) c.self.inside.calls) c.in_ok-batch.ensures)).core
+
+pub returns-clause-ok : goal.returns-clause-ok
+returns-clause-ok c =
+    (fetch_row c.self.inside c.args.self.now c.fetch.new.self c.args.fetch.now c.self.invariant c.self.view_is c.requires
+    (c.in_ok-fetch.ensures.ok ∙ ap (λ (b : Portion Entry). changes_unit c.args.fetch.now.unit (λ u. record { work = extended u.work b; flying = Some b.entries }) c.self.inside.calls) c.in_ok-batch.ensures)).seen

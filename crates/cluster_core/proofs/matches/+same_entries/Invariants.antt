@@ -1,6 +1,0 @@
--- The lists get shorter.
-use Rattle.std.proofs.Common.{length}
-use Rattle.cluster_core.proofs.matches.+same_entries.Given as goal
-
-abbrev pub decreases-same_entries : goal.decreases-same_entries
-decreases-same_entries l = length l.a.now

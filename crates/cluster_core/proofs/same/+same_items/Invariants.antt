@@ -1,0 +1,6 @@
+-- The lists get shorter.
+use Rattle.std.proofs.Common.{length}
+use Rattle.cluster_core.proofs.same.+same_items.Given as goal
+
+abbrev pub decreases-same_items : goal.decreases-same_items
+decreases-same_items l = length l.a.now

@@ -1,0 +1,132 @@
+//! What the core does of what it holds, and what its calls and units lose by it.
+
+ghost use Rattle.std.specs.Prelude.{◌≡◌, ℕ, ◌&&◌, nat_lt, not, true, OnErr, OnOk};
+ghost use Rattle.std.specs.FinSet as set_of;
+ghost use Rattle.topology_coord.specs.Coordination.{topology_of};
+ghost use Rattle.topology_phase.specs.Owners.{among};
+ghost use Rattle.topology_phase.specs.Topologies.{read_owners};
+ghost use Rattle.cluster_model.specs.Topologies.{announced, can_announce, can_depart, can_install, can_join, departed, installed, joined};
+ghost use Rattle.cluster_model.specs.Transfers.{can_copy, can_land, copied, landed};
+ghost use Rattle.cluster_model.specs.Writes.{can_erase, can_tick, can_write, erased, ticked, written};
+
+use crate::cluster::Core;
+use cluster_store::Store;
+use grid_base::{NoMemory, NodeId, SegmentId, TopologyId};
+use grid_event::{CopyEvent, EraseEvent, WriteEvent};
+use segment_hash::SegmentSet;
+use std::alloc::Global;
+use topology_phase::Topology;
+
+impl Core {
+    /// The write happens. After want of memory the core is as before.
+    pub(crate) fn write(&mut self, alloc: Global, write: &WriteEvent) -> Result<(), NoMemory>
+        requires { can_write self.old write.now ≡ true }
+        ensures ok { OnOk result (self.new ≡ written self.old write.now) }
+        ensures err { OnErr result (self.new ≡ self.old) }
+    {
+        self.store.write(alloc, write)?;
+        Ok(())
+    }
+
+    /// The erasure happens. After want of memory the core is as before.
+    pub(crate) fn erase(&mut self, alloc: Global, erase: &EraseEvent) -> Result<(), NoMemory>
+        requires { can_erase self.old erase.now ≡ true }
+        ensures ok { OnOk result (self.new ≡ erased self.old erase.now) }
+        ensures err { OnErr result (self.new ≡ self.old) }
+    {
+        self.store.erase(alloc, erase)?;
+        Ok(())
+    }
+
+    /// The clock goes on.
+    pub(crate) fn tick(&mut self, ticks: u32)
+        requires { can_tick self.old ticks ≡ true }
+        ensures { self.new ≡ ticked self.old ticks }
+    {
+        self.store.tick(ticks);
+    }
+
+    /// The node joins. After want of memory the core is as before.
+    pub(crate) fn join(&mut self, alloc: Global, node: NodeId) -> Result<(), NoMemory>
+        requires { can_join self.old node ≡ true }
+        ensures ok { OnOk result (self.new ≡ joined self.old node) }
+        ensures err { OnErr result (self.new ≡ self.old) }
+    {
+        self.store.join(alloc, node)?;
+        Ok(())
+    }
+
+    /// The node departs: its open units are lost, and unanswered calls that ask again note the
+    /// segments that are lost with it.
+    pub(crate) fn depart(&mut self, node: NodeId)
+        requires { can_depart self.old node ≡ true }
+        ensures { self.new ≡ departed self.old node }
+    {
+        let _ = self.store.coord().newest().segments();
+        let lost = self.store.depart(node);
+        self.calls.note_losses(&lost);
+        self.calls.lose_at(node);
+    }
+
+    /// The topology is announced. After want of memory the core is as before.
+    pub(crate) fn announce(&mut self, alloc: Global, topology: &Topology) -> Result<(), NoMemory>
+        requires { can_announce self.old topology.now ≡ true }
+        ensures ok { OnOk result (self.new ≡ announced self.old topology.now) }
+        ensures err { OnErr result (self.new ≡ self.old) }
+    {
+        let topology = topology.copy(alloc)?;
+        self.store.announce(topology);
+        Ok(())
+    }
+
+    /// The node installs the newest topology: its running units on segments that it doesn't read any
+    /// longer are lost.
+    pub(crate) fn install(&mut self, node: NodeId, id: TopologyId)
+        requires { can_install self.old node id ≡ true }
+        ensures { self.new ≡ installed self.old node id }
+    {
+        self.store.install(node, id);
+        let unread = unread(&self.store, node);
+        self.calls.cease(node, &unread, id);
+    }
+
+    /// The chunk is sent. After want of memory the core is as before.
+    pub(crate) fn copy(&mut self, alloc: Global, copy: &CopyEvent) -> Result<(), NoMemory>
+        requires { can_copy self.old copy.now ≡ true }
+        ensures ok { OnOk result (self.new ≡ copied self.old copy.now) }
+        ensures err { OnErr result (self.new ≡ self.old) }
+    {
+        self.store.copy(alloc, copy)?;
+        Ok(())
+    }
+
+    /// What flies lands. After want of memory the core is as before.
+    pub(crate) fn land(
+        &mut self,
+        alloc: Global,
+        receiver: NodeId,
+        segment: SegmentId,
+    ) -> Result<(), NoMemory>
+        requires { can_land self.old receiver segment ≡ true }
+        ensures ok { OnOk result (self.new ≡ landed self.old receiver segment) }
+        ensures err { OnErr result (self.new ≡ self.old) }
+    {
+        self.store.land(alloc, receiver, segment)?;
+        Ok(())
+    }
+}
+
+/// The segments that the node doesn't read by the topology that it has installed.
+fn unread(store: &Store, node: NodeId) -> SegmentSet
+    ensures { (segment : ℕ) → set_of.contains result segment ≡ (nat_lt segment store.now.config.segments && not (among node (read_owners (topology_of store.now.coord node) segment))) }
+{
+    let mut unread = SegmentSet::new();
+    for number in 0..store.config().segments {
+        let segment = SegmentId::new(number);
+        if store.reads(node, segment) {
+            continue;
+        }
+        unread.add(segment);
+    }
+    unread
+}

@@ -1,2 +1,0 @@
-pub mod CellOrder
-pub mod ChosenSteps
