@@ -18,10 +18,14 @@ use Rattle.local_publisher.specs.declared.unit_state.UnitState.TheVariants.{Aske
 use Rattle.cluster_model.specs.State.{Call, Unit, is_asked, is_ended, is_open_unit, is_running, with_unit}
 use Rattle.cluster_model.specs.Units.{read_by}
 use Rattle.cluster_calls.specs.Calling.{AreNumbered, Calling, call_in, changes_unit, is_one, may_end, may_read, unit_in}
-use Rattle.cluster_calls.specs.Insides.{AreRight, IsCalls, calling_of}
+use Rattle.cluster_calls.specs.Insides.{ArePieced, AreRight, IsCalls, calling_of}
+use Rattle.cluster_calls.specs.Parts.{HasParts, is_within}
+use Rattle.cluster_calls.specs.declared.parts.Parts.{Parts}
+use Rattle.reduce_cluster.specs.Reduced.{segments_of}
 use Rattle.cluster_calls.specs.Rows.{Rows, calls_in, may_close, may_end_one}
 use Rattle.cluster_calls.specs.declared.calls.Calls.TheInside.{Inside}
-use Rattle.cluster_calls.proofs.RightLaws.{and_left, and_right, both_true, itself, read_by-set, with_unit-there}
+use Rattle.cluster_calls.proofs.RightLaws.{both_true, itself, read_by-set, with_unit-there}
+use Rattle.cluster_calls.proofs.BothLaws.{and_left, and_right}
 use Rattle.cluster_calls.proofs.ListLaws.{count_some, length-filter, not_some, find_place}
 use Rattle.cluster_calls.proofs.RowTables.{get-calls_in}
 use Rattle.cluster_calls.proofs.RoundLaws.{get-range}
@@ -44,20 +48,24 @@ read_unit units i u unit at is = is ∙ get_or_from_slice_get units i u unit at
 -- a unit is changed, and the entries read are counted on
 pub unit_kept : (fields : Inside) → IsCalls fields → (i : ℕ) (u v : Unit) (table : Rows) (read : ℕ) → slice_get fields.units.items i ≡ Some u
     → read + length u.work.entries ≡ fields.read + length v.work.entries → read ≤ MOST_READ
-    → AreRight fields.segments (slice_set fields.units.items i v) table → IsCalls (record fields { units = with_item fields.units i v; table = table; read = read })
-unit_kept fields kept i u v table read at counted few right = record {
+    → AreRight fields.segments (slice_set fields.units.items i v) table → ArePieced fields.segments (slice_set fields.units.items i v) table
+    → IsCalls (record fields { units = with_item fields.units i v; table = table; read = read })
+unit_kept fields kept i u v table read at counted few right pieced = record {
   few_segments = kept.few_segments;
   right = right;
+  pieced = pieced;
   numbered = omega (arith, length-set fields.units.items i v, kept.numbered);
   counted = omega (arith, read_by-set fields.units.items i u v at, kept.counted, counted);
   few = few;
 }
 
 -- rows are changed alone
-pub rows_kept : (fields : Inside) → IsCalls fields → (table : Rows) → AreRight fields.segments fields.units.items table → IsCalls (record fields { table = table })
-rows_kept fields kept table right = record {
+pub rows_kept : (fields : Inside) → IsCalls fields → (table : Rows) → AreRight fields.segments fields.units.items table → ArePieced fields.segments fields.units.items table
+    → IsCalls (record fields { table = table })
+rows_kept fields kept table right pieced = record {
   few_segments = kept.few_segments;
   right = right;
+  pieced = pieced;
   numbered = kept.numbered;
   counted = kept.counted;
   few = kept.few;
@@ -110,13 +118,15 @@ nothing_flies o none h = absurd (let w = sym h ∙ ap is_some none in cc)
 -- a unit is changed to the second one, rows to the second table
 pub changed_kept : (fields : Inside) → IsCalls fields → (i : ℕ) (u v after : Unit) (table after_table : Rows) (read : ℕ) → slice_get fields.units.items i ≡ Some u
     → after ≡ v → after_table ≡ table → read + length u.work.entries ≡ fields.read + length v.work.entries → read ≤ MOST_READ
-    → AreRight fields.segments (slice_set fields.units.items i v) table
+    → AreRight fields.segments (slice_set fields.units.items i v) table → ArePieced fields.segments (slice_set fields.units.items i v) table
     → IsCalls (record fields { units = with_item fields.units i after; table = after_table; read = read })
-changed_kept fields kept i u v after table after_table read at unit_is table_is counted few right =
+changed_kept fields kept i u v after table after_table read at unit_is table_is counted few right pieced =
     unit_kept fields kept i u after after_table read at
     (let same : length after.work.entries ≡ length v.work.entries = ap (λ (x : Unit). length x.work.entries) unit_is in omega (arith, counted, same)) few
     (subst (λ (x : Unit). AreRight fields.segments (slice_set fields.units.items i x) after_table) (sym unit_is)
     (subst (λ (t : Rows). AreRight fields.segments (slice_set fields.units.items i v) t) (sym table_is) right))
+    (subst (λ (x : Unit). ArePieced fields.segments (slice_set fields.units.items i x) after_table) (sym unit_is)
+    (subst (λ (t : Rows). ArePieced fields.segments (slice_set fields.units.items i v) t) (sym table_is) pieced))
 
 -- then the unit of the number is seen as changed
 pub changed_seen : (fields : Inside) → IsCalls fields → (number i : ℕ) (u after : Unit) (table : Rows) (change : Unit → Unit) → i ≡ number - 1 → 1 ≤ number
@@ -137,32 +147,40 @@ plus_zero n = omega arith
 below : {m n : ℕ} → m < n → nat_lt m n ≡ true
 below l = grind (arith, nat_tests)
 
--- the call of an open unit counts one that is open
-pub may_close_it : (segments : ℕ) (units : List Unit) (rows : Rows) (i : ℕ) (u : Unit) → AreRight segments units rows → slice_get units i ≡ Some u → is_open_unit u ≡ true
-    → is_one may_close (map_of.get rows u.work.call) ≡ true
-may_close_it segments units rows i u right at open_ =
-    is_one_row may_close rows u.work.call (map_of.get rows u.work.call) refl (right.placed i u at).there (λ row g.
+-- a piece may be booked for the segment of a unit of the call
+within_parts : (segments : ℕ) (units : List Unit) (n : ℕ) (call : Call) (s : ℕ) (o : Option Parts) → s < segments → HasParts segments units n call o → is_within s o ≡ true
+within_parts segments units n call s None l has = refl
+within_parts segments units n call s (Some parts) l has = let wide = has.wide in let inside : s < segments_of parts.booked = omega (arith, wide, l) in below inside
+
+may_close_row : (segments : ℕ) (units : List Unit) (rows : Rows) (i : ℕ) (u : Unit) → AreRight segments units rows → ArePieced segments units rows → slice_get units i ≡ Some u → is_open_unit u ≡ true
+    → (row : Row) → map_of.get rows u.work.call ≡ Some row → may_close u.work.segment row ≡ true
+may_close_row segments units rows i u right pieced at open_ row g =
     let kept = right.kept u.work.call row g in
     let busy = both_true (u.work.call == u.work.call) (is_open_unit u) (itself u.work.call) open_ in
     let some_ = count_some (is_busy u.work.call) units i u at busy in
     let more : 0 < row.tally.unended = omega (arith, some_, kept.tally.unended, length-filter (is_busy u.work.call) units) in
-    grind (arith, nat_tests))
+    both_true (nat_lt 0 row.tally.unended) (is_within u.work.segment row.parts) (below more)
+    (within_parts segments units u.work.call row.call u.work.segment row.parts (right.placed i u at).within (pieced.parts u.work.call row g))
+
+-- the call of an open unit counts one that is open, and a piece may be booked for its segment
+pub may_close_it : (segments : ℕ) (units : List Unit) (rows : Rows) (i : ℕ) (u : Unit) → AreRight segments units rows → ArePieced segments units rows → slice_get units i ≡ Some u → is_open_unit u ≡ true
+    → is_one (may_close u.work.segment) (map_of.get rows u.work.call) ≡ true
+may_close_it segments units rows i u right pieced at open_ =
+    is_one_row (may_close u.work.segment) rows u.work.call (map_of.get rows u.work.call) refl (right.placed i u at).there (may_close_row segments units rows i u right pieced at open_)
 
 -- and its segment is incomplete
-pub may_end_it : (segments : ℕ) (units : List Unit) (rows : Rows) (i : ℕ) (u : Unit) → AreRight segments units rows → slice_get units i ≡ Some u → is_open_unit u ≡ true
-    → is_one may_end_one (map_of.get rows u.work.call) ≡ true
-may_end_it segments units rows i u right at open_ =
-    is_one_row may_end_one rows u.work.call (map_of.get rows u.work.call) refl (right.placed i u at).there (λ row g.
+pub may_end_it : (segments : ℕ) (units : List Unit) (rows : Rows) (i : ℕ) (u : Unit) → AreRight segments units rows → ArePieced segments units rows → slice_get units i ≡ Some u → is_open_unit u ≡ true
+    → is_one (may_end_one u.work.segment) (map_of.get rows u.work.call) ≡ true
+may_end_it segments units rows i u right pieced at open_ =
+    is_one_row (may_end_one u.work.segment) rows u.work.call (map_of.get rows u.work.call) refl (right.placed i u at).there (λ row g.
     let kept = right.kept u.work.call row g in
     let busy = both_true (u.work.call == u.work.call) (is_open_unit u) (itself u.work.call) open_ in
-    let some_ = count_some (is_busy u.work.call) units i u at busy in
-    let more : 0 < row.tally.unended = omega (arith, some_, kept.tally.unended, length-filter (is_busy u.work.call) units) in
     let p : ℕ → Bool = λ (s : ℕ). not (set_of.contains row.tally.complete s) in
     let inside = (right.placed i u at).within in
     let one_left = count_some p (range_with_len 0 segments) u.work.segment (0 + u.work.segment) (get-range 0 segments u.work.segment inside)
     (ap (λ k. not (set_of.contains row.tally.complete k)) (plus_zero u.work.segment) ∙ ap not (kept.tally.complete u.work.segment ∙ kept.round.incomplete i u at busy)) in
     let left : 0 < row.tally.left = omega (arith, one_left, kept.tally.left, length-filter p (range_with_len 0 segments)) in
-    both_true (nat_lt 0 row.tally.unended) (nat_lt 0 row.tally.left) (below more) (below left))
+    both_true (nat_lt 0 row.tally.left) (may_close u.work.segment row) (below left) (may_close_row segments units rows i u right pieced at open_ row g))
 
 -- what passes a test is there
 pub one_at : {A : Type 0} (test : A → Bool) (o : Option A) → is_one test o ≡ true → (x : A) × (o ≡ Some x) × (test x ≡ true)
@@ -194,6 +212,11 @@ nothing_kept fields none empty few read = record {
   right = record {
     placed = λ i u at. none_there fields.units.items i u none at;
     kept = λ n row at. not_some row (sym (ap (λ (t : Rows). map_of.get t n) empty ∙ map_of.get-empty nat_cmp n) ∙ at);
+  };
+  pieced = record {
+    unread = λ i u at. none_there fields.units.items i u none at;
+    newest = λ i j u z at zt. none_there fields.units.items i u none at;
+    parts = λ n row at. not_some row (sym (ap (λ (t : Rows). map_of.get t n) empty ∙ map_of.get-empty nat_cmp n) ∙ at);
   };
   numbered = omega (arith, ap length none);
   counted = read ∙ ap read_by (sym none);

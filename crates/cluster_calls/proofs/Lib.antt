@@ -1,3 +1,4 @@
+pub mod BothLaws
 pub mod RowTables
 pub mod SetLaws
 pub mod CallLaws
@@ -7,8 +8,12 @@ pub mod UnitLaws
 pub mod RightLaws
 pub mod RoundLaws
 pub mod CallsLaws
-pub mod EvidenceLaws
 pub mod QueryLaws
 pub mod NoteLaws
 pub mod RoundQueries
+pub mod PartLists
+pub mod PartLaws
+pub mod AnswerLaws
+pub mod PartRounds
+pub mod PartQueries
 pub mod TestLaws

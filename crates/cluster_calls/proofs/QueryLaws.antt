@@ -150,9 +150,6 @@ read_by-asked [] number id [] = refl
 read_by-asked [] number id (ask ∷ asks) = let rest = read_by-asked [] number id asks in omega (arith, rest)
 read_by-asked (u ∷ units) number id asks = ap (λ n. length u.work.entries + n) (read_by-asked units number id asks)
 
-pub less_than : (m n : ℕ) → nat_lt m n ≡ true → m < n
-less_than m n h = grind (arith, nat_tests)
-
 -- none counts where none passes
 pub none_counts : {X : Type 0} (p : X → Bool) (xs : List X) → list_any p xs ≡ false → count p xs ≡ 0
 none_counts p xs h = let e : not (count p xs == 0) ≡ false = sym (any_counted p xs) ∙ h in grind (arith, nat_tests)

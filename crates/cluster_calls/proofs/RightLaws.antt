@@ -4,24 +4,18 @@ use Rattle.std.proofs.lemmas.Bool.Decides.{nat_tests}
 use Rattle.std.specs.FinMap as map_of
 use Rattle.std.specs.Option.{option_map}
 use Rattle.std.specs.Prelude.{slice_get, slice_set}
+use Rattle.pipeline_split.specs.declared.piece.Piece.{Piece}
 use Rattle.cluster_model.specs.State.{Call, Unit, is_ended, is_of, is_on, is_open_unit, is_running, with_unit}
 use Rattle.cluster_model.specs.Topologies.{is_complete}
 use Rattle.cluster_model.specs.Units.{read_by}
 use Rattle.cluster_calls.specs.Calling.{AreNumbered, is_one, unit_in}
 use Rattle.cluster_calls.specs.Insides.{AreRight, IsPlaced, IsRound, IsRow}
 use Rattle.cluster_calls.specs.Rows.{Rows, changes_row, with_row, with_row_end, with_row_without_open}
+use Rattle.cluster_calls.specs.declared.parts.Parts.{Parts}
 use Rattle.cluster_calls.specs.declared.row.Row.{Row}
 use Rattle.cluster_calls.proofs.ListLaws.{any-set_more, any-set_same, find_place, map_one, not_some, same_some, set_cases}
 use Rattle.cluster_calls.proofs.RowTables.{equal, get-put}
 use Rattle.cluster_calls.proofs.UnitLaws.{Alike, has_done, is_busy, tally_closed, tally_ended, tally_same}
-
-pub and_left : (a b : Bool) → (a && b) ≡ true → a ≡ true
-and_left true b h = refl
-and_left false b h = h
-
-pub and_right : (a b : Bool) → (a && b) ≡ true → b ≡ true
-and_right true b h = h
-and_right false b h = absurd (cc)
 
 pub and_none : (a b : Bool) → a ≡ false → (a && b) ≡ false
 and_none true b h = absurd (cc)
@@ -89,9 +83,9 @@ row_same segments units i u v n row h a busy done kept = record {
 }
 
 -- the row of a call of which a unit is open no longer
-row_closed : (segments : ℕ) (units : List Unit) (i : ℕ) (u v : Unit) (n : ℕ) (row : Row) → slice_get units i ≡ Some u → Alike u v
-    → is_busy n u ≡ true → is_busy n v ≡ false → ((s : ℕ) → has_done n s v ≡ has_done n s u) → IsRow segments units n row → IsRow segments (slice_set units i v) n (with_row_without_open row)
-row_closed segments units i u v n row h a was gone done kept = record {
+row_closed : (segments : ℕ) (units : List Unit) (i : ℕ) (u v : Unit) (n : ℕ) (row : Row) (s : ℕ) (made : Option Piece) → slice_get units i ≡ Some u → Alike u v
+    → is_busy n u ≡ true → is_busy n v ≡ false → ((s : ℕ) → has_done n s v ≡ has_done n s u) → IsRow segments units n row → IsRow segments (slice_set units i v) n (with_row_without_open s made row)
+row_closed segments units i u v n row s made h a was gone done kept = record {
   tally = tally_closed segments units i u v n row.tally h a was gone done kept.tally;
   round =
       round_set units i u v n row.call h a (λ is. was)
@@ -119,10 +113,10 @@ other_segment units i j u z n call h at apart was is kept =
     grind (arith, nat_tests)
 
 -- the row of a call of which a unit has ended
-row_ended : (segments : ℕ) (units : List Unit) (i : ℕ) (u v : Unit) (n : ℕ) (row : Row) → slice_get units i ≡ Some u → Alike u v
+row_ended : (segments : ℕ) (units : List Unit) (i : ℕ) (u v : Unit) (n : ℕ) (row : Row) (made : Option Piece) → slice_get units i ≡ Some u → Alike u v
     → is_busy n u ≡ true → is_busy n v ≡ false → ((s : ℕ) → has_done n s u ≡ false) → ((s : ℕ) → has_done n s v ≡ (s == u.work.segment))
-    → u.work.segment < segments → IsRow segments units n row → IsRow segments (slice_set units i v) n (with_row_end u.work.segment row)
-row_ended segments units i u v n row h a was gone undone done inside kept = record {
+    → u.work.segment < segments → IsRow segments units n row → IsRow segments (slice_set units i v) n (with_row_end u.work.segment made row)
+row_ended segments units i u v n row made h a was gone undone done inside kept = record {
   tally = tally_ended segments units i u v n row.tally h a was gone undone done inside (kept.round.incomplete i u h was) kept.tally;
   round =
       round_set units i u v n row.call h a (λ is. was)
@@ -207,7 +201,7 @@ after_same segments units rows i u v right h a runs open_ ended_ =
     row_same segments units i u v n row h a (λ k. (a.call k == n) && open_ k) (λ s k. ((a.call k == n) && (a.segment k == s)) && ended_ k) (right.kept n row at))
 
 -- a unit of another call says nothing of a call
-of_other : (u v : Unit) (n c : ℕ) → Alike u v → u.work.call ≡ c → n ≢ c → (is_of n u ≡ false) × (is_of n v ≡ false)
+pub of_other : (u v : Unit) (n c : ℕ) → Alike u v → u.work.call ≡ c → n ≢ c → (is_of n u ≡ false) × (is_of n v ≡ false)
 of_other u v n c a is apart = (grind (arith, nat_tests), let same = a.call in grind (arith, nat_tests))
 
 other_row : (segments : ℕ) (units : List Unit) (i : ℕ) (u v : Unit) (n : ℕ) (row : Row) → slice_get units i ≡ Some u → Alike u v → n ≢ u.work.call
@@ -229,19 +223,20 @@ both_true true b h g = g
 both_true false b h g = absurd (cc)
 
 -- a unit that is open no longer, and hasn't ended
-pub after_closed : (segments : ℕ) (units : List Unit) (rows : Rows) (i : ℕ) (u v : Unit) → AreRight segments units rows → slice_get units i ≡ Some u → Alike u v
+pub after_closed : (segments : ℕ) (units : List Unit) (rows : Rows) (i : ℕ) (u v : Unit) (s : ℕ) (made : Option Piece) → AreRight segments units rows → slice_get units i ≡ Some u → Alike u v
     → (is_some v.flying ≡ true → is_running v.work.state ≡ true) → is_open_unit u ≡ true → is_open_unit v ≡ false → is_ended v.work.state ≡ is_ended u.work.state
-    → AreRight segments (slice_set units i v) (changes_row u.work.call with_row_without_open rows)
-after_closed segments units rows i u v right h a runs was gone ended_ =
-    right_set segments units rows (changes_row u.work.call with_row_without_open rows) i u v right h a runs (changed_there rows u.work.call with_row_without_open) (λ n row at.
-    elim (changed_cases rows u.work.call with_row_without_open n row at) [
+    → AreRight segments (slice_set units i v) (changes_row u.work.call (with_row_without_open s made) rows)
+after_closed segments units rows i u v s made right h a runs was gone ended_ =
+    let change = with_row_without_open s made in
+    right_set segments units rows (changes_row u.work.call change rows) i u v right h a runs (changed_there rows u.work.call change) (λ n row at.
+    elim (changed_cases rows u.work.call change n row at) [
       | inl e ↦
           subst (λ (r : Row). IsRow segments (slice_set units i v) n r) (sym e.1.2)
-          (subst (λ m. IsRow segments (slice_set units i v) m (with_row_without_open e.1.0)) (sym e.0)
-          (row_closed segments units i u v u.work.call e.1.0 h a
+          (subst (λ m. IsRow segments (slice_set units i v) m (change e.1.0)) (sym e.0)
+          (row_closed segments units i u v u.work.call e.1.0 s made h a
           (λ k. both_true (u.work.call == u.work.call) (is_open_unit u) (itself u.work.call) was k)
           (and_none_right (is_of u.work.call v) (is_open_unit v) gone)
-          (λ s k. ((a.call k == u.work.call) && (a.segment k == s)) && ended_ k) (right.kept u.work.call e.1.0 e.1.1)))
+          (λ t k. ((a.call k == u.work.call) && (a.segment k == t)) && ended_ k) (right.kept u.work.call e.1.0 e.1.1)))
       | inr e ↦ other_row segments units i u v n row h a e.0 (right.kept n row e.1)
     ])
 
@@ -249,17 +244,17 @@ only_segment : (c m s : ℕ) → (((c == c) && (m == s)) && true) ≡ (s == m)
 only_segment c m s = grind (arith, nat_tests)
 
 -- a unit that has ended
-pub after_ended : (segments : ℕ) (units : List Unit) (rows : Rows) (i : ℕ) (u v : Unit) → AreRight segments units rows → slice_get units i ≡ Some u → Alike u v
+pub after_ended : (segments : ℕ) (units : List Unit) (rows : Rows) (i : ℕ) (u v : Unit) (made : Option Piece) → AreRight segments units rows → slice_get units i ≡ Some u → Alike u v
     → (is_some v.flying ≡ true → is_running v.work.state ≡ true) → is_open_unit u ≡ true → is_open_unit v ≡ false → is_ended u.work.state ≡ false → is_ended v.work.state ≡ true
-    → AreRight segments (slice_set units i v) (changes_row u.work.call (with_row_end u.work.segment) rows)
-after_ended segments units rows i u v right h a runs was gone undone done =
-    let change = with_row_end u.work.segment in
+    → AreRight segments (slice_set units i v) (changes_row u.work.call (with_row_end u.work.segment made) rows)
+after_ended segments units rows i u v made right h a runs was gone undone done =
+    let change = with_row_end u.work.segment made in
     right_set segments units rows (changes_row u.work.call change rows) i u v right h a runs (changed_there rows u.work.call change) (λ n row at.
     elim (changed_cases rows u.work.call change n row at) [
       | inl e ↦
           subst (λ (r : Row). IsRow segments (slice_set units i v) n r) (sym e.1.2)
-          (subst (λ m. IsRow segments (slice_set units i v) m (with_row_end u.work.segment e.1.0)) (sym e.0)
-          (row_ended segments units i u v u.work.call e.1.0 h a
+          (subst (λ m. IsRow segments (slice_set units i v) m (change e.1.0)) (sym e.0)
+          (row_ended segments units i u v u.work.call e.1.0 made h a
           (both_true (u.work.call == u.work.call) (is_open_unit u) (itself u.work.call) was)
           (and_none_right (is_of u.work.call v) (is_open_unit v) gone)
           (λ s. and_none_right (is_on u.work.call s u) (is_ended u.work.state) undone)
@@ -279,8 +274,9 @@ right_rows segments units rows after right there kept = record {
 }
 
 -- a call that keeps its last round
-pub row_call : (segments : ℕ) (units : List Unit) (n : ℕ) (row : Row) (call : Call) → call.last_round ≡ row.call.last_round → IsRow segments units n row → IsRow segments units n (record row { call = call })
-row_call segments units n row call same kept = record {
+pub row_call : (segments : ℕ) (units : List Unit) (n : ℕ) (row : Row) (call : Call) (parts : Option Parts) → call.last_round ≡ row.call.last_round → IsRow segments units n row
+    → IsRow segments units n (record { call = call; tally = row.tally; parts = parts })
+row_call segments units n row call parts same kept = record {
   tally = kept.tally;
   round = record {
     start = kept.round.start;
@@ -299,7 +295,7 @@ row_call segments units n row call same kept = record {
 -- a row with the same tally and the same last round
 pub row_alike : (segments : ℕ) (units : List Unit) (n : ℕ) (row other : Row) → other.call.last_round ≡ row.call.last_round → other.tally ≡ row.tally → IsRow segments units n row → IsRow segments units n other
 row_alike segments units n row other rounds tally kept =
-    subst (λ t. IsRow segments units n (record other { tally = t })) (sym tally) (row_call segments units n row other.call rounds kept)
+    subst (λ t. IsRow segments units n (record other { tally = t })) (sym tally) (row_call segments units n row other.call other.parts rounds kept)
 
 -- the call of a row is changed, but for its last round
 pub after_call : (segments : ℕ) (units : List Unit) (rows : Rows) (number : ℕ) (change : Row → Row) → ((row : Row) → (change row).call.last_round ≡ row.call.last_round)

@@ -17,6 +17,7 @@ use Rattle.cluster_calls.specs.Insides.{AreRight, IsPlaced, IsRound, IsRow}
 use Rattle.cluster_calls.specs.Rows.{Rows, changes_row, with_row_asks}
 use Rattle.cluster_calls.specs.Tallied.{AreAsked, Tallied, nothing_tallied, with_asks}
 use Rattle.cluster_calls.specs.Tallies.{IsTally, number_of}
+use Rattle.cluster_calls.specs.declared.parts.Parts.{Parts}
 use Rattle.cluster_calls.specs.declared.row.Row.{Row}
 use Rattle.std.proofs.lemmas.List.{append_assoc, append-nil}
 use Rattle.std.proofs.lemmas.List.Elements.{All-cons, All-nil}
@@ -107,9 +108,9 @@ put_there o true row h = refl
 put_there o false row h = h
 
 -- a call is made
-pub after_invoke : (segments : ℕ) (units : List Unit) (rows : Rows) (number originator : ℕ) (request : Request) → AreRight segments units rows → map_of.get rows number ≡ None
-    → AreRight segments units (map_of.insert rows number (record { call = new_call originator request; tally = nothing_tallied segments }))
-after_invoke segments units rows number originator request right absent = record {
+pub after_invoke : (segments : ℕ) (units : List Unit) (rows : Rows) (number originator : ℕ) (request : Request) (parts : Option Parts) → AreRight segments units rows → map_of.get rows number ≡ None
+    → AreRight segments units (map_of.insert rows number (record { call = new_call originator request; tally = nothing_tallied segments; parts = parts }))
+after_invoke segments units rows number originator request parts right absent = record {
   placed = λ i u at.
       let was = right.placed i u at in
       record {
@@ -122,7 +123,7 @@ after_invoke segments units rows number originator request right absent = record
 }
   where
     made : Row
-    made = record { call = new_call originator request; tally = nothing_tallied segments }
+    made = record { call = new_call originator request; tally = nothing_tallied segments; parts = parts }
 
     none : (i : ℕ) (u : Unit) → slice_get units i ≡ Some u → is_of number u ≡ false
     none = no_unit segments units rows number right absent
@@ -307,7 +308,7 @@ tally_asks segments (ask ∷ asks) units n id t inside kept =
       newest = rest.newest;
     })
 
-mapped_at : {X Y : Type 0} (f : X → Y) (o : Option X) (y : Y) → option_map f o ≡ Some y → (x : X) × (o ≡ Some x) × (y ≡ f x)
+pub mapped_at : {X Y : Type 0} (f : X → Y) (o : Option X) (y : Y) → option_map f o ≡ Some y → (x : X) × (o ≡ Some x) × (y ≡ f x)
 mapped_at f None y h = not_some y h
 mapped_at f (Some x) y h = (x, refl, sym (same_some (f x) y h))
 
@@ -339,7 +340,7 @@ ask_at segments units number asks k a next at =
       incomplete = not_true (is_complete units number a.segment) segment.2;
     }
 
-asks_ascend : (segments : ℕ) (units : List Unit) (number : ℕ) (asks : List Ask) (i j : ℕ) (a b : Ask) → AreNext segments units number asks → i < j → slice_get asks i ≡ Some a → slice_get asks j ≡ Some b → a.segment < b.segment
+pub asks_ascend : (segments : ℕ) (units : List Unit) (number : ℕ) (asks : List Ask) (i j : ℕ) (a b : Ask) → AreNext segments units number asks → i < j → slice_get asks i ≡ Some a → slice_get asks j ≡ Some b → a.segment < b.segment
 asks_ascend segments units number asks i j a b next less at bt =
     let q = λ (s : ℕ). not (is_complete units number s) in
     filter_range_ascends q 0 segments i j a.segment b.segment less
@@ -347,7 +348,7 @@ asks_ascend segments units number asks i j a b next less at bt =
     (ap (λ ns. slice_get ns j) (sym next.segments_are) ∙ get-map (λ (ask : Ask). ask.segment) asks j ∙ ap (option_map (λ (ask : Ask). ask.segment)) bt)
 
 -- no unit of the call is open
-none_busy : (units : List Unit) (number i : ℕ) (u : Unit) (P : Type 0) → list_any (is_busy number) units ≡ false → slice_get units i ≡ Some u → is_busy number u ≡ true → P
+pub none_busy : (units : List Unit) (number i : ℕ) (u : Unit) (P : Type 0) → list_any (is_busy number) units ≡ false → slice_get units i ≡ Some u → is_busy number u ≡ true → P
 none_busy units number i u P closed at is = absurd (let e = sym (any_at (is_busy number) units i u at is) ∙ closed in cc)
 
 -- the round of the call that asks

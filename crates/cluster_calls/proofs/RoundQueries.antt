@@ -11,7 +11,8 @@ use Rattle.cluster_calls.specs.Calling.{AreNumbered, open_in, round_units}
 use Rattle.cluster_calls.specs.Insides.{AreRight, IsRound}
 use Rattle.cluster_calls.specs.Rows.{Rows}
 use Rattle.cluster_calls.proofs.ListLaws.{not_some, same_some}
-use Rattle.cluster_calls.proofs.RightLaws.{and_left, and_none, and_none_right, and_right, both_true}
+use Rattle.cluster_calls.proofs.RightLaws.{and_none, and_none_right, both_true}
+use Rattle.cluster_calls.proofs.BothLaws.{and_left, and_right}
 use Rattle.cluster_calls.proofs.RowTables.{equal}
 use Rattle.cluster_calls.proofs.RoundLaws.{length-range, no_unit}
 use Rattle.cluster_calls.proofs.UnitLaws.{is_busy}

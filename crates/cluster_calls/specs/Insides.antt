@@ -1,5 +1,5 @@
 -- How the fields of a `Calls` are seen, and what holds of them.
-use Rattle.std.specs.Prelude.{◌≡◌, ◌≤◌, ◌<◌, ◌^◌, ℕ, ◌+◌, true, false, ◌&&◌, List, length, slice_get, Some, is_some}
+use Rattle.std.specs.Prelude.{◌≡◌, ◌≤◌, ◌<◌, ◌^◌, ℕ, ◌+◌, true, false, ◌&&◌, List, [], length, slice_get, Some, is_some}
 use Rattle.std.specs.List.{range_with_len}
 use Rattle.std.specs.FinMap as map_of
 use Rattle.grid_base.specs.declared.limits.TheConstants.{MOST_READ}
@@ -7,6 +7,7 @@ use Rattle.cluster_model.specs.State.{Call, Unit, is_of, is_open_unit, is_runnin
 use Rattle.cluster_model.specs.Topologies.{is_complete}
 use Rattle.cluster_model.specs.Units.{read_by}
 use Rattle.cluster_calls.specs.Calling.{Calling}
+use Rattle.cluster_calls.specs.Parts.{HasParts, has_begun}
 use Rattle.cluster_calls.specs.Rows.{Rows, calls_in}
 use Rattle.cluster_calls.specs.Tallies.{IsTally}
 use Rattle.cluster_calls.specs.declared.row.Row.{Row}
@@ -48,10 +49,18 @@ pub record AreRight (segments : ℕ) (units : List Unit) (rows : Rows) : Type 0 
   pub placed : (i : ℕ) (u : Unit) → slice_get units i ≡ Some u → IsPlaced segments rows i u
   pub kept : (n : ℕ) (row : Row) → map_of.get rows n ≡ Some row → IsRow segments units n row
 
--- segments are few, all is right, and the entries read are counted
+-- of a unit that didn't begin nothing was read, an open unit is the newest of its call on its segment, and for each call
+-- its pieces are booked
+pub record ArePieced (segments : ℕ) (units : List Unit) (rows : Rows) : Type 0 where
+  pub unread : (i : ℕ) (u : Unit) → slice_get units i ≡ Some u → has_begun u.work.state ≡ false → u.work.entries ≡ []
+  pub newest : (i j : ℕ) (u z : Unit) → slice_get units i ≡ Some u → slice_get units j ≡ Some z → is_open_unit u ≡ true → z.work.call ≡ u.work.call → z.work.segment ≡ u.work.segment → j ≤ i
+  pub parts : (n : ℕ) (row : Row) → map_of.get rows n ≡ Some row → HasParts segments units n row.call row.parts
+
+-- segments are few, all is right and booked, and the entries read are counted
 pub record IsCalls (fields : Inside) : Type 0 where
   pub few_segments : fields.segments ≤ 256
   pub right : AreRight fields.segments fields.units.items fields.table
+  pub pieced : ArePieced fields.segments fields.units.items fields.table
   pub numbered : length fields.units.items < 2 ^ 32
   pub counted : fields.read ≡ read_by fields.units.items
   pub few : fields.read ≤ MOST_READ

@@ -1,4 +1,5 @@
 pub mod Calling
+pub mod Parts
 pub mod Takings
 pub mod Tallied
 pub mod Tallies

@@ -8,10 +8,12 @@ use Rattle.delivery_mode.specs.Guarantee.{asks_again}
 use Rattle.grid_base.specs.declared.entry.Entry.{Entry}
 use Rattle.grid_event.specs.declared.call_events.Ask.{Ask}
 use Rattle.grid_event.specs.declared.outcome.Outcome.{Outcome}
+use Rattle.pipeline_split.specs.declared.piece.Piece.{Piece}
 use Rattle.cluster_model.specs.Calls.{granted}
 use Rattle.cluster_model.specs.State.{Call}
 use Rattle.cluster_model.specs.Topologies.{all_noted}
 use Rattle.cluster_calls.specs.Calling.{with_round, with_taken}
+use Rattle.cluster_calls.specs.Parts.{is_within, with_booking}
 use Rattle.cluster_calls.specs.Tallied.{AreAsked, with_asks, with_end, without_open}
 use Rattle.cluster_calls.specs.declared.row.Row.{Row}
 
@@ -43,21 +45,23 @@ with_row_asks start asks row = record row {
   tally = with_asks asks row.tally;
 }
 
--- an open unit of the call is open no longer
-abbrev pub with_row_without_open : Row → Row
-with_row_without_open row = record row { tally = without_open row.tally }
+-- an open unit of the call is open no longer, and the piece is booked for its segment
+abbrev pub with_row_without_open : ℕ → Option Piece → Row → Row
+with_row_without_open segment part row =
+    record row { tally = without_open row.tally; parts = with_booking segment part row.parts }
 
--- an open unit of the call has ended, by which the segment is complete
-abbrev pub with_row_end : ℕ → Row → Row
-with_row_end segment row = record row { tally = with_end segment row.tally }
+-- an open unit of the call has ended, by which the segment is complete, and the piece is booked for it
+abbrev pub with_row_end : ℕ → Option Piece → Row → Row
+with_row_end segment part row =
+    record row { tally = with_end segment row.tally; parts = with_booking segment part row.parts }
 
 -- the call has taken the entries, and so many items more were given
 abbrev pub with_row_taken : ℕ → List Entry → ℕ → Row → Row
 with_row_taken segment entries given row = record row { call = with_taken segment entries given row.call }
 
--- the call is answered
+-- the call is answered, and its pieces are gone
 abbrev pub with_outcome : Outcome → Row → Row
-with_outcome outcome row = record row { call = record row.call { outcome = Some outcome } }
+with_outcome outcome row = record row { call = record row.call { outcome = Some outcome }; parts = None }
 
 -- those of the segments are noted that aren't complete, where the call isn't answered and asks again
 abbrev pub notes : set_of.FinSet nat_cmp → Row → Row
@@ -75,10 +79,10 @@ pub record MayAsk (asks : List Ask) (row : Row) : Type 0 where
   pub few : row.tally.unended + length asks < 2 ^ 32
   pub within : AreAsked (length row.tally.newest) asks
 
--- a unit is open
-abbrev pub may_close : Row → Bool
-may_close row = nat_lt 0 row.tally.unended
+-- a unit is open, and a piece may be booked for the segment
+abbrev pub may_close : ℕ → Row → Bool
+may_close segment row = nat_lt 0 row.tally.unended && is_within segment row.parts
 
--- a unit is open, and a segment incomplete
-abbrev pub may_end_one : Row → Bool
-may_end_one row = nat_lt 0 row.tally.unended && nat_lt 0 row.tally.left
+-- a unit is open and a segment incomplete, and a piece may be booked for the segment
+abbrev pub may_end_one : ℕ → Row → Bool
+may_end_one segment row = nat_lt 0 row.tally.left && may_close segment row

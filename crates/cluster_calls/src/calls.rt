@@ -11,7 +11,7 @@ ghost use Rattle.cluster_model.specs.Units.{read_by};
 ghost use Rattle.suspect_retry.specs.Rounds.{closed_at};
 ghost use Rattle.cluster_calls.specs.Calling.{AreNumbered, all_complete_in, any_open, call_in, caught_up, incomplete_from, newest_in, no_calls, open_in, round_units, unit_in};
 
-mod evidence;
+mod booking;
 mod losses;
 mod reading;
 mod rounds;

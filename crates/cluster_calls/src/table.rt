@@ -11,11 +11,13 @@ ghost use Rattle.cluster_calls.specs.Calling.{is_one};
 ghost use Rattle.cluster_calls.specs.Rows.{MayAsk, changes_row, each_row, may_close, may_end_one, notes, with_outcome, with_row_asks, with_row_end, with_row_taken, with_row_without_open};
 
 use crate::call::Call;
+use crate::parts::book;
 use crate::row::Row;
 use crate::tally::Tally;
 use grid_base::{CallId, Entry, NoMemory, SegmentId};
 use grid_event::{Ask, Outcome};
 use indexmap::IndexMap;
+use pipeline_split::Piece;
 use segment_hash::SegmentSet;
 use std::alloc::Global;
 use std::marker::Model;
@@ -81,25 +83,29 @@ impl Table {
         }
     }
 
-    /// An open unit of the call is open no longer, and its segment isn't complete by it.
-    pub(crate) fn close(&mut self, number: CallId)
-        requires { is_one may_close (map_of.get self.old number) ≡ true }
-        ensures { self.new ≡ changes_row number with_row_without_open self.old }
+    /// An open unit of the call is open no longer, and its segment isn't complete by it. Where
+    /// there is a piece, it is booked for the segment.
+    pub(crate) fn close(&mut self, number: CallId, segment: SegmentId, made: Option<Piece>)
+        requires { is_one (may_close segment) (map_of.get self.old number) ≡ true }
+        ensures { self.new ≡ changes_row number (with_row_without_open segment made) self.old }
     {
         if let Some(row) = self.rows.get_mut(&number.number()) {
             row.tally.close();
+            book(&mut row.parts, segment, made);
             return;
         }
     }
 
     /// An open unit of the call has ended, by which its segment, which is below 256, is complete.
-    pub(crate) fn end(&mut self, number: CallId, segment: SegmentId)
-        requires some { is_one may_end_one (map_of.get self.old number) ≡ true }
+    /// Where there is a piece, it is booked for the segment.
+    pub(crate) fn end(&mut self, number: CallId, segment: SegmentId, made: Option<Piece>)
+        requires some { is_one (may_end_one segment) (map_of.get self.old number) ≡ true }
         requires within { segment < 256 }
-        ensures { self.new ≡ changes_row number (with_row_end segment) self.old }
+        ensures { self.new ≡ changes_row number (with_row_end segment made) self.old }
     {
         if let Some(row) = self.rows.get_mut(&number.number()) {
             row.tally.end(segment);
+            book(&mut row.parts, segment, made);
             return;
         }
     }
@@ -124,12 +130,13 @@ impl Table {
         Ok(())
     }
 
-    /// The call is answered.
+    /// The call is answered, and nothing is booked for it any longer.
     pub(crate) fn answer(&mut self, number: CallId, outcome: Outcome)
         ensures { self.new ≡ changes_row number (with_outcome outcome) self.old }
     {
         if let Some(row) = self.rows.get_mut(&number.number()) {
             row.call.answer(outcome);
+            row.parts = None;
             return;
         }
     }

@@ -24,20 +24,20 @@ fn count(alloc: Global) -> Request
 }
 
 /// What is told of the call at number 1: whether a unit is open, whether segment 0 is complete, how
-/// many rounds were made, and how many entries count.
-fn told(alloc: Global, calls: &Calls) -> Result<(bool, bool, u8, usize), Fail> {
+/// many rounds were made, and whether a piece is booked for segment 0.
+fn told(calls: &Calls) -> (bool, bool, u8, bool) {
     let number = CallId::new(1);
     let rounds = match calls.call(number) {
         None => 0,
         Some(call) => call.rounds(),
     };
-    let evidence = calls.evidence(alloc, number)?;
-    Ok((
+    let segment = SegmentId::new(0);
+    (
         calls.has_open(number),
-        calls.is_complete(number, SegmentId::new(0)),
+        calls.is_complete(number, segment),
         rounds,
-        evidence.len(),
-    ))
+        calls.part(number, segment).is_some(),
+    )
 }
 
 #[test]
@@ -47,14 +47,14 @@ fn a_call_reads_its_one_segment(rt: HostRuntime) -> Result<(), Fail> {
     let (unit, segment) = (UnitId::new(1), SegmentId::new(0));
     let mut calls = Calls::new(alloc, 1);
     calls.invoke(alloc, number, node, count(alloc))?;
-    assert_eq!(rt; told(alloc, &calls)?, (false, false, 0, 0));
+    assert_eq!(rt; told(&calls), (false, false, 0, false));
     let ask = Ask {
         unit,
         segment,
         node,
     };
     calls.round(alloc, number, at, &[ask])?;
-    assert_eq!(rt; told(alloc, &calls)?, (true, false, 1, 0));
+    assert_eq!(rt; told(&calls), (true, false, 1, false));
     calls.begin(unit, true, at);
     let mut entries = Entries::new(alloc);
     entries.push(Entry {
@@ -63,9 +63,9 @@ fn a_call_reads_its_one_segment(rt: HostRuntime) -> Result<(), Fail> {
     })?;
     let last = true;
     calls.scan(unit, Batch { entries, last })?;
-    assert_eq!(rt; told(alloc, &calls)?, (true, false, 1, 0));
-    calls.end(unit);
-    assert_eq!(rt; told(alloc, &calls)?, (false, true, 1, 1));
+    assert_eq!(rt; told(&calls), (true, false, 1, false));
+    calls.end(alloc, unit)?;
+    assert_eq!(rt; told(&calls), (false, true, 1, true));
     assert!(rt; calls.all_complete(number));
     assert!(rt; calls.incomplete_from(number, segment).is_none());
     assert!(rt; calls.newest(number, segment).is_some());

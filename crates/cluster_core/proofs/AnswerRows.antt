@@ -1,13 +1,16 @@
 -- What an answer makes of a core, and which answer there is.
-use Rattle.std.proofs.Common.{◌≡◌, ℕ, Bool, true, false, ◌&&◌, Option, None, Some, is_none, if◌then◌else◌, refl, ap, ◌∙◌}
+use Rattle.std.proofs.Common.{◌≡◌, ℕ, Bool, true, false, ◌&&◌, not, ◌||◌, ◌==◌, Option, None, Some, is_none, if◌then◌else◌, refl, ap, ◌∙◌}
 use Rattle.std.specs.FinMap as map_of
 use Rattle.std.specs.Option.{option_and_then, option_map}
 use Rattle.std.specs.Ordering.{nat_cmp}
+use Rattle.delivery_mode.specs.Guarantee.{asks_again}
 use Rattle.grid_event.specs.declared.call_events.AnswerEvent.{AnswerEvent}
 use Rattle.grid_event.specs.declared.event.Event.TheVariants as events
 use Rattle.grid_event.specs.declared.outcome.Outcome.{Outcome}
+use Rattle.cluster_calls.proofs.BothLaws.{and_right}
 use Rattle.cluster_calls.specs.Calling.{Calling, changes_call, evidence_in, with_call}
-use Rattle.cluster_model.specs.Answers.{answered, can_answer, can_answer_call, evidence_of, is_that_outcome, outcome_of, with_outcome}
+use Rattle.cluster_model.specs.Answers.{answered, can_answer, can_answer_call, evidence_of, is_that_outcome, is_whole, outcome_of, with_outcome}
+use Rattle.cluster_model.specs.Calls.{all_complete, has_open}
 use Rattle.cluster_model.specs.Commands.{answer_event, if_any_allowed}
 use Rattle.cluster_model.specs.State.{Call, State, call_of}
 use Rattle.cluster_laws.proofs.StuckUnits.{outcome_itself}
@@ -32,6 +35,15 @@ answer_seen fields st a calls view is =
 pub evidence_seen : (fields : Inside) (st : State) → IsCore fields → state_of fields ≡ st → (number : ℕ) (call : Call) → evidence_in fields.calls number call ≡ evidence_of st number call
 evidence_seen fields st h view number call =
     ap (λ n. evidence_in (record fields.calls { segments = n }) number call) h.segments ∙ ap (λ (s : State). evidence_of s number call) view
+
+-- in a call that is whole every segment is complete or no unit is open
+pub whole_one : (st : State) (number : ℕ) (call : Call) → is_whole st number call ≡ true → (all_complete st number || not (has_open st number)) ≡ true
+whole_one st number call h = by (asks_again call.request.guarantee) (all_complete st number) (not (call.rounds == 0)) (not (has_open st number)) h
+  where
+    by : (again complete made closed : Bool) → (if again then complete else made && closed) ≡ true → (complete || closed) ≡ true
+    by true complete made closed h = ap (λ b. b || closed) h
+    by false true made closed h = refl
+    by false false made closed h = and_right made closed h
 
 -- the answer of a call that has this outcome, or none
 answer_of : (st : State) (number : ℕ) (call : Call) (outcome : Option Outcome) → call_of st number ≡ Some call → outcome_of st number call ≡ outcome

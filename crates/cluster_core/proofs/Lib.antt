@@ -16,3 +16,5 @@ pub mod StoreViews
 pub mod Choices
 pub mod Clocks
 pub mod TakeRows
+pub mod Departures
+pub mod PieceRows

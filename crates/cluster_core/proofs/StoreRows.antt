@@ -11,7 +11,7 @@ use Rattle.grid_event.specs.declared.store_events.EraseEvent.{EraseEvent}
 use Rattle.grid_event.specs.declared.store_events.WriteEvent.{WriteEvent}
 use Rattle.topology_coord.specs.Coordination.{lost_segments}
 use Rattle.topology_phase.specs.Topologies.{Topology}
-use Rattle.cluster_model.specs.State.{State, Unit, start}
+use Rattle.cluster_model.specs.State.{Call, State, Unit, start}
 use Rattle.cluster_model.specs.Step.{allowed, changed}
 use Rattle.cluster_model.specs.Topologies.{announced, can_announce, can_depart, can_install, can_join, departed, each_call, installed, joined, notes_losses}
 use Rattle.cluster_model.specs.Transfers.{can_copy, can_land, copied, landed}
@@ -21,6 +21,7 @@ use Rattle.cluster_store.specs.Insides.{IsReached}
 use Rattle.cluster_store.proofs.Reached.{start_reached}
 use Rattle.cluster_core.specs.Insides.{IsCore, state_of}
 use Rattle.cluster_core.specs.declared.cluster.Core.TheInside.{Inside}
+use Rattle.cluster_core.proofs.Departures.{notes_departed}
 use Rattle.cluster_core.proofs.Rows.{core_next}
 use Rattle.cluster_core.proofs.StoreFacts.{announce_same, announced_same, copied_same, copy_same, depart_same, departed_same, erase_same, erased_same, install_same, installed_same, join_same, joined_same, land_same, landed_same, tick_same, ticked_same, with_calls, write_same, written_same}
 use Rattle.cluster_core.proofs.UnitSegments.{AreUnread, units_cease, units_within}
@@ -131,14 +132,17 @@ pub depart_may : (fields : Inside) (st : State) (node : ℕ) → state_of fields
 depart_may fields st node view may = sym (depart_same fields.store fields.calls.units fields.calls.calls node) ∙ ap (λ (s : State). can_depart s node) view ∙ may
 
 -- what a core becomes by a departure
-pub depart_row : (fields : Inside) (st : State) (node : ℕ) (store : State) (noted left : Calling) → IsCore fields → state_of fields ≡ st → can_depart st node ≡ true → store ≡ departed fields.store node
-    → noted ≡ record fields.calls { calls = each_call (notes_losses fields.calls.units (lost_segments fields.store.coord node)) fields.calls.calls }
-    → left ≡ record noted { units = map (with_departure node) noted.units } → Becomes (record { store = store; calls = left }) (departed st node)
-depart_row fields st node store noted left h view may is notes leaves =
-    let calls : left
-    ≡ record fields.calls { units = map (with_departure node) fields.calls.units; calls = each_call (notes_losses fields.calls.units (lost_segments fields.store.coord node)) fields.calls.calls } =
-    leaves ∙ ap (λ (x : Calling). record x { units = map (with_departure node) x.units }) notes in
-    becomes fields (record { store = store; calls = left }) st (events.Depart node) h view may
+pub depart_row : (fields : Inside) (st : State) (node : ℕ) (store : State) (left noted : Calling) → IsCore fields → state_of fields ≡ st → can_depart st node ≡ true → store ≡ departed fields.store node
+    → left ≡ record fields.calls { units = map (with_departure node) fields.calls.units }
+    → noted ≡ record left { calls = each_call (notes_losses left.units (lost_segments fields.store.coord node)) left.calls } → Becomes (record { store = store; calls = noted }) (departed st node)
+depart_row fields st node store left noted h view may is leaves notes =
+    let lost : List ℕ = lost_segments fields.store.coord node in
+    let calls : noted ≡ record fields.calls { units = map (with_departure node) fields.calls.units; calls = each_call (notes_losses fields.calls.units lost) fields.calls.calls } =
+    notes
+    ∙ ap (λ (x : Calling). record x { calls = each_call (notes_losses x.units lost) x.calls }) leaves
+    ∙ ap (λ (change : ℕ → Call → Call). record fields.calls { units = map (with_departure node) fields.calls.units; calls = each_call change fields.calls.calls })
+    (notes_departed node fields.calls.units lost) in
+    becomes fields (record { store = store; calls = noted }) st (events.Depart node) h view may
     ((λ i. with_calls (is i) (calls i).units (calls i).calls) ∙ departed_same fields.store fields.calls.units fields.calls.calls node) (ap (λ (x : Calling). x.segments) calls)
 
 -- ---- installations

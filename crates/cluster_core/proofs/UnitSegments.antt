@@ -1,20 +1,17 @@
 -- Of which segments units are, and which of them a node ceases to read.
 use Rattle.std.proofs.Common.{◌≡◌, ℕ, ◌==◌, ◌<◌, ◌&&◌, nat_lt, not, true, cond, List, [], ◌∷◌, map, Some, refl, ap, subst, ◌∙◌}
-use Rattle.std.proofs.lemmas.Bool.{and_parts, eq-eqb, lt-ltb}
+use Rattle.std.proofs.lemmas.Bool.{and_parts, lt-ltb}
 use Rattle.std.specs.FinSet as set_of
 use Rattle.std.specs.List.{AllByRecursion}
 use Rattle.std.specs.Ordering.{nat_cmp}
 use Rattle.grid_event.specs.Configs.{is_config}
 use Rattle.grid_event.specs.declared.config.Config.{Config}
 use Rattle.grid_event.specs.declared.event.Event.{Event}
-use Rattle.topology_coord.specs.Changes.{installs}
-use Rattle.topology_coord.specs.Coordination.{Coordination, topology_of}
-use Rattle.topology_coord.proofs.MemberLaws.{topology-installs}
 use Rattle.topology_phase.specs.Owners.{among}
 use Rattle.topology_phase.specs.Topologies.{read_owners}
 use Rattle.cluster_model.specs.State.{State, Unit, is_running, start, with_loss}
 use Rattle.cluster_model.specs.Step.{allowed, changed, runs, state}
-use Rattle.cluster_model.specs.Topologies.{ceases, installed}
+use Rattle.cluster_model.specs.Topologies.{ceases}
 use Rattle.cluster_calls.specs.Calling.{with_installation}
 use Rattle.cluster_laws.proofs.StageRuns.{IsTraced, traced_on, traced_start}
 use Rattle.cluster_laws.proofs.Starts.{good_config}
@@ -44,33 +41,10 @@ map_alike : {A : Type 0} (P : A → Type 0) (f g : A → A) → ((x : A) → P x
 map_alike P f g alike [] all = refl
 map_alike P f g alike (x ∷ xs) all = λ i. alike x all.0 i ∷ map_alike P f g alike xs all.1 i
 
--- a node has the newest topology once it has installed it
-newest_installed : (c : Coordination) (node : ℕ) → topology_of (installs c node) node ≡ c.newest
-newest_installed c node = topology-installs c node node ∙ ap (λ b. cond b c.newest (topology_of c node)) (eq-eqb node node refl)
-
--- and so it has in the cluster after an installation
-pub topology_installed : (st : State) (node id : ℕ) → topology_of (installed st node id).coord node ≡ st.coord.newest
-unfolding installed
-topology_installed st node id = newest_installed st.coord node
-
--- the settings stay over an installation
-pub settings_installed : (st : State) (node id : ℕ) → (installed st node id).config ≡ st.config
-unfolding installed
-settings_installed st node id = refl
-
 -- the segments of the cluster that the node doesn't read by the newest topology
 abbrev pub AreUnread : State → ℕ → set_of.FinSet nat_cmp → Type 0
 AreUnread st node unread =
     (segment : ℕ) → set_of.contains unread segment ≡ (nat_lt segment st.config.segments && not (among node (read_owners st.coord.newest segment)))
-
--- the segments that a node doesn't read after an installation
-pub unread_installed : (st later : State) (node id : ℕ) (unread : set_of.FinSet nat_cmp) → later ≡ installed st node id
-    → ((segment : ℕ) → set_of.contains unread segment ≡ (nat_lt segment later.config.segments && not (among node (read_owners (topology_of later.coord node) segment))))
-    → AreUnread st node unread
-unread_installed st later node id unread is told segment =
-    told segment
-    ∙ ap (λ (s : State). nat_lt segment s.config.segments && not (among node (read_owners (topology_of s.coord node) segment))) is
-    ∙ (λ i. nat_lt segment (settings_installed st node id i).segments && not (among node (read_owners (topology_installed st node id i) segment)))
 
 -- a unit of the cluster's segments ceases by its segment exactly where the node doesn't read it
 ceases_alike : (st : State) (node id : ℕ) (unread : set_of.FinSet nat_cmp) → AreUnread st node unread → (unit : Unit) → unit.work.segment < st.config.segments

@@ -2,3 +2,4 @@ pub mod Insides
 pub mod Reading
 pub mod Taking
 pub mod Lifespans
+pub mod Parts

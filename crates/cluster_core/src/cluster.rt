@@ -15,6 +15,7 @@ mod choose;
 mod drive;
 mod events;
 mod losses;
+mod pieces;
 mod rounds;
 mod serve;
 mod takes;

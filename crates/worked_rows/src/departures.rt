@@ -57,7 +57,7 @@ fn are_told(alloc: Global, journal: &Journal, place: u32, made: &InvokeEvent) ->
 }
 
 /// The core after the first events of a journal, up to that place.
-fn core_after(alloc: Global, journal: &Journal, place: u32) -> Result<Core> {
+pub fn core_after(alloc: Global, journal: &Journal, place: u32) -> Result<Core> {
     let config = journal.config().context("a journal without settings")?;
     let mut core = Core::new(alloc, config)?;
     for earlier in 1..=place {

@@ -46,7 +46,7 @@ pub fn told_row<R: Files + AllocGlobal>(rt: &R, line: &str) -> Result<String> {
 }
 
 /// The bytes of a script; none for `-`.
-fn script_bytes<R: Files + AllocGlobal>(rt: &R, name: &str) -> Result<Vec<u8>> {
+pub fn script_bytes<R: Files + AllocGlobal>(rt: &R, name: &str) -> Result<Vec<u8>> {
     let alloc = rt.alloc();
     if name == "-" {
         return Ok(Vec::new(alloc));

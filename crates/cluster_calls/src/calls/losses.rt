@@ -1,37 +1,48 @@
 //! Units and segments are lost.
 
-ghost use Rattle.std.specs.Prelude.{◌≡◌, ◌<◌, ℕ, List, map, true, length, slice_get, slice_set, Some};
+ghost use Rattle.std.specs.Prelude.{◌≡◌, ◌<◌, ℕ, List, map, true, length, slice_get, slice_set, Some, IfOk, OnErr, OnOk};
 ghost use Rattle.std.specs.FinSet as set_of;
 ghost use Rattle.topology_phase.specs.Owners.{among};
 ghost use Rattle.cluster_model.specs.State as states;
 ghost use Rattle.cluster_model.specs.State.{is_open_unit, with_loss};
 ghost use Rattle.cluster_model.specs.Topologies.{each_call, notes_losses};
+ghost use Rattle.cluster_calls.specs.Parts.{booking_ceased, booking_departed, booking_in};
 ghost use Rattle.cluster_calls.specs.Calling.{is_one, with_departure, with_installation};
 
 use crate::calls::Calls;
-use grid_base::{NodeId, TopologyId};
+use grid_base::{NoMemory, NodeId, TopologyId};
+use pipeline_split::Piece;
 use segment_hash::SegmentSet;
+use std::alloc::Global;
 
 impl Calls {
-    /// The node departs: its open units are lost.
-    pub fn lose_at(&mut self, node: NodeId)
-        ensures { self.new ≡ record self.old { units = map (with_departure node) self.old.units } }
+    /// The node departs: its open units are lost, and where a reduction's guarantee keeps what they
+    /// read, it is booked. After want of memory all is as before.
+    pub fn lose_at(&mut self, alloc: Global, node: NodeId) -> Result<(), NoMemory>
+        ensures ok { OnOk result (self.new ≡ record self.old { units = map (with_departure node) self.old.units }) }
+        ensures err { OnErr result (self.new ≡ self.old) }
     {
-        let count = self.units.as_slice().len();
-        for place in 0..count {
-            self.lose_one(place, node);
-        }
+        let made = self.departures(alloc, node)?;
+        self.lose_each(node, made);
+        Ok(())
     }
 
     /// The node installs the topology `id`, by which it ceases to read these segments: its running
-    /// units on them are lost.
-    pub fn cease(&mut self, node: NodeId, segments: &SegmentSet, id: TopologyId)
-        ensures { self.new ≡ record self.old { units = map (with_installation node segments.now id) self.old.units } }
+    /// units on them are lost, and where a reduction's guarantee keeps what they read, it is booked.
+    /// After want of memory all is as before.
+    pub fn cease(
+        &mut self,
+        alloc: Global,
+        node: NodeId,
+        segments: &SegmentSet,
+        id: TopologyId,
+    ) -> Result<(), NoMemory>
+        ensures ok { OnOk result (self.new ≡ record self.old { units = map (with_installation node segments.now id) self.old.units }) }
+        ensures err { OnErr result (self.new ≡ self.old) }
     {
-        let count = self.units.as_slice().len();
-        for place in 0..count {
-            self.cease_one(place, node, segments, id);
-        }
+        let made = self.ceasings(alloc, node, segments, id)?;
+        self.cease_each(node, segments, id, made);
+        Ok(())
     }
 
     /// Each call that isn't answered and asks again notes those of the lost segments that aren't
@@ -42,9 +53,120 @@ impl Calls {
         self.table.note(lost);
     }
 
-    /// The unit at the place is lost where it is open and at the node, which departs.
-    fn lose_one(&mut self, place: usize, node: NodeId)
-        requires { place < length self.old.units }
+    /// By the places of the units, what is to be booked where the node departs. The only failure is
+    /// that memory runs out.
+    fn departures(&self, alloc: Global, node: NodeId) -> Result<Vec<Option<Piece>>, NoMemory>
+        ensures { IfOk result (λ made. made.items ≡ map (booking_departed self.now node) self.now.units) }
+    {
+        let count = self.units.as_slice().len();
+        let mut made = Vec::with_capacity(alloc, count)?;
+        for place in 0..count {
+            made.push(self.departure(alloc, place, node)?)?;
+        }
+        Ok(made)
+    }
+
+    /// What is to be booked of the unit at the place where the node departs. The only failure is
+    /// that memory runs out.
+    fn departure(
+        &self,
+        alloc: Global,
+        place: usize,
+        node: NodeId,
+    ) -> Result<Option<Piece>, NoMemory>
+        requires { place < length self.now.units }
+        ensures { IfOk result (λ made. (u : states.Unit) → slice_get self.now.units place ≡ Some u → made ≡ booking_departed self.now node u) }
+    {
+        let unit = &self.units[place];
+        if !unit.is_open() {
+            return Ok(None);
+        }
+        if !unit.is_at(node) {
+            return Ok(None);
+        }
+        self.loss(alloc, place, None)
+    }
+
+    /// By the places of the units, what is to be booked where the node installs the topology `id`,
+    /// by which it ceases to read these segments. The only failure is that memory runs out.
+    fn ceasings(
+        &self,
+        alloc: Global,
+        node: NodeId,
+        segments: &SegmentSet,
+        id: TopologyId,
+    ) -> Result<Vec<Option<Piece>>, NoMemory>
+        ensures { IfOk result (λ made. made.items ≡ map (booking_ceased self.now node segments.now id) self.now.units) }
+    {
+        let count = self.units.as_slice().len();
+        let mut made = Vec::with_capacity(alloc, count)?;
+        for place in 0..count {
+            made.push(self.ceasing(alloc, place, node, segments, id)?)?;
+        }
+        Ok(made)
+    }
+
+    /// What is to be booked of the unit at the place where the node ceases to read these segments.
+    /// The only failure is that memory runs out.
+    fn ceasing(
+        &self,
+        alloc: Global,
+        place: usize,
+        node: NodeId,
+        segments: &SegmentSet,
+        id: TopologyId,
+    ) -> Result<Option<Piece>, NoMemory>
+        requires { place < length self.now.units }
+        ensures { IfOk result (λ made. (u : states.Unit) → slice_get self.now.units place ≡ Some u → made ≡ booking_ceased self.now node segments.now id u) }
+    {
+        let unit = &self.units[place];
+        if !unit.is_running() {
+            return Ok(None);
+        }
+        if !unit.is_at(node) {
+            return Ok(None);
+        }
+        if !segments.has(unit.segment()) {
+            return Ok(None);
+        }
+        self.loss(alloc, place, Some(id))
+    }
+
+    /// The open units at the node, which departs, are lost, and by their places this is booked.
+    fn lose_each(&mut self, node: NodeId, mut made: Vec<Option<Piece>>)
+        requires { made.items ≡ map (booking_departed self.old node) self.old.units }
+        ensures { self.new ≡ record self.old { units = map (with_departure node) self.old.units } }
+    {
+        let count = self.units.as_slice().len();
+        for place in 0..count {
+            let part = made[place].take();
+            self.lose_one(place, node, part);
+        }
+    }
+
+    /// The running units at the node on these segments are lost, and by their places this is booked.
+    fn cease_each(
+        &mut self,
+        node: NodeId,
+        segments: &SegmentSet,
+        id: TopologyId,
+        mut made: Vec<Option<Piece>>,
+    )
+        requires { made.items ≡ map (booking_ceased self.old node segments.now id) self.old.units }
+        ensures { self.new ≡ record self.old { units = map (with_installation node segments.now id) self.old.units } }
+    {
+        let count = self.units.as_slice().len();
+        for place in 0..count {
+            let part = made[place].take();
+            self.cease_one(place, node, segments, id, part);
+        }
+    }
+
+    /// The unit at the place is lost where it is open and at the node, which departs, and this is
+    /// booked.
+    fn lose_one(&mut self, place: usize, node: NodeId, part: Option<Piece>)
+        requires place { place < length self.old.units }
+        requires part { (u : states.Unit) → slice_get self.old.units place ≡ Some u → part ≡ booking_departed self.old node u }
         ensures { (u : states.Unit) → slice_get self.old.units place ≡ Some u → self.new ≡ record self.old { units = slice_set self.old.units place (with_departure node u) } }
     {
         let unit = &self.units[place];
@@ -54,12 +176,21 @@ impl Calls {
         if !unit.is_at(node) {
             return;
         }
-        self.lose(place, None);
+        self.lose(place, None, part);
     }
 
-    /// The unit at the place is lost where it runs at the node, on one of these segments.
-    fn cease_one(&mut self, place: usize, node: NodeId, segments: &SegmentSet, id: TopologyId)
-        requires { place < length self.old.units }
+    /// The unit at the place is lost where it runs at the node, on one of these segments, and this
+    /// is booked.
+    fn cease_one(
+        &mut self,
+        place: usize,
+        node: NodeId,
+        segments: &SegmentSet,
+        id: TopologyId,
+        part: Option<Piece>,
+    )
+        requires place { place < length self.old.units }
+        requires part { (u : states.Unit) → slice_get self.old.units place ≡ Some u → part ≡ booking_ceased self.old node segments.now id u }
         ensures { (u : states.Unit) → slice_get self.old.units place ≡ Some u → self.new ≡ record self.old { units = slice_set self.old.units place (with_installation node segments.now id u) } }
     {
         let unit = &self.units[place];
@@ -72,17 +203,18 @@ impl Calls {
         if !segments.has(unit.segment()) {
             return;
         }
-        self.lose(place, Some(id));
+        self.lose(place, Some(id), part);
     }
 
-    /// The unit at the place, which is open, is lost.
-    fn lose(&mut self, place: usize, at: Option<TopologyId>)
-        requires { is_one is_open_unit (slice_get self.old.units place) ≡ true }
+    /// The unit at the place, which is open, is lost, and this is booked for its segment.
+    fn lose(&mut self, place: usize, at: Option<TopologyId>, part: Option<Piece>)
+        requires open { is_one is_open_unit (slice_get self.old.units place) ≡ true }
+        requires part { (u : states.Unit) → slice_get self.old.units place ≡ Some u → part ≡ booking_in self.old (with_loss at u) }
         ensures { (u : states.Unit) → slice_get self.old.units place ≡ Some u → self.new ≡ record self.old { units = slice_set self.old.units place (with_loss at u) } }
     {
         let unit = &mut self.units[place];
-        let call = unit.call();
+        let (call, segment) = (unit.call(), unit.segment());
         unit.mark_lost(at);
-        self.table.close(call);
+        self.table.close(call, segment, part);
     }
 }

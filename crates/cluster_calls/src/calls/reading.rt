@@ -1,14 +1,18 @@
 //! What becomes of a unit: it begins, it reads, its batches are taken, it ends.
 
-ghost use Rattle.std.specs.Prelude.{◌≡◌, ◌+◌, ◌≤◌, true, length, Some, OnErr, OnOk};
+ghost use Rattle.std.specs.Prelude.{◌≡◌, ◌+◌, ◌≤◌, true, length, slice_get, Some, is_some, OnErr, OnOk};
 ghost use Rattle.grid_base.specs.declared.limits.TheConstants.{MOST_READ};
 ghost use Rattle.local_publisher.specs.Units.{begun, ended, extended};
+ghost use Rattle.pipeline_split.specs.Halves.{remote_of};
+ghost use Rattle.pipeline_split.specs.Pieces as pieces;
 ghost use Rattle.cluster_model.specs.State as states;
 ghost use Rattle.cluster_model.specs.Units.{further_items, read_by};
+ghost use Rattle.cluster_calls.specs.Parts.{booking_in};
 ghost use Rattle.cluster_calls.specs.Calling.{call_in, changes_unit, flies, is_one, may_begin, may_end, may_read, taking_of, unit_in};
 
 use crate::calls::{Calls, place_of};
 use grid_base::{Batch, Entry, NoMemory, TopologyId, UnitId};
+use pipeline_split::Piece;
 use std::alloc::Global;
 
 impl Calls {
@@ -20,10 +24,10 @@ impl Calls {
     {
         let place = place_of(unit);
         let unit = &mut self.units[place];
-        let call = unit.call();
+        let (call, segment) = (unit.call(), unit.segment());
         unit.begin(runs, at);
         if !runs {
-            self.table.close(call);
+            self.table.close(call, segment, None);
         }
     }
 
@@ -83,16 +87,51 @@ impl Calls {
         Ok(())
     }
 
-    /// The unit, which has read its last batch, has ended, and its segment is complete for its
-    /// call.
-    pub fn end(&mut self, unit: UnitId)
+    /// The unit, which has read its last batch, has ended: its segment is complete for its call,
+    /// and of a reduction the piece of what the unit read is booked. After want of memory all is as
+    /// before.
+    pub fn end(&mut self, alloc: Global, unit: UnitId) -> Result<(), NoMemory>
         requires { is_one may_end (unit_in self.old.units unit) ≡ true }
+        ensures ok { OnOk result (self.new ≡ changes_unit unit (λ u. record u { work = ended u.work }) self.old) }
+        ensures err { OnErr result (self.new ≡ self.old) }
+    {
+        let made = self.booking(alloc, self.placed(unit))?;
+        self.end_booked(unit, made);
+        Ok(())
+    }
+
+    /// The unit, which has read its last batch, has ended, and of a reduction this piece, which is
+    /// that of what the unit read, is booked. After want of memory all is as before.
+    pub fn end_with(&mut self, alloc: Global, unit: UnitId, piece: Piece) -> Result<(), NoMemory>
+        requires may { is_one may_end (unit_in self.old.units unit) ≡ true }
+        requires piece { (u : states.Unit) (call : states.Call) → unit_in self.old.units unit ≡ Some u → call_in self.old u.work.call ≡ Some call → piece ≡ pieces.piece (remote_of call.request.pipeline) u.work.entries }
+        ensures ok { OnOk result (self.new ≡ changes_unit unit (λ u. record u { work = ended u.work }) self.old) }
+        ensures err { OnErr result (self.new ≡ self.old) }
+    {
+        let made = self.booking_with(alloc, self.placed(unit), piece)?;
+        self.end_booked(unit, made);
+        Ok(())
+    }
+
+    /// The place of the unit of that number, which is there.
+    fn placed(&self, unit: UnitId) -> usize
+        requires { is_some (unit_in self.now.units unit) ≡ true }
+        ensures { slice_get self.now.units result ≡ unit_in self.now.units unit }
+    {
+        let _units = self.units.as_slice();
+        place_of(unit)
+    }
+
+    /// The unit, which has read its last batch, has ended, and this is booked for its segment.
+    fn end_booked(&mut self, unit: UnitId, made: Option<Piece>)
+        requires may { is_one may_end (unit_in self.old.units unit) ≡ true }
+        requires made { (u : states.Unit) → unit_in self.old.units unit ≡ Some u → made ≡ booking_in self.old (record u { work = ended u.work }) }
         ensures { self.new ≡ changes_unit unit (λ u. record u { work = ended u.work }) self.old }
     {
         let place = place_of(unit);
         let unit = &mut self.units[place];
         let (call, segment) = (unit.call(), unit.segment());
         unit.end();
-        self.table.end(call, segment);
+        self.table.end(call, segment, made);
     }
 }

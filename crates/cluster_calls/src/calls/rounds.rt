@@ -9,6 +9,7 @@ ghost use Rattle.cluster_calls.specs.Calling.{any_open, call_in, changes_call, i
 
 use crate::call::Call;
 use crate::calls::Calls;
+use crate::parts::made_parts;
 use crate::row::Row;
 use crate::tally::Tally;
 use crate::unit::Unit;
@@ -29,9 +30,10 @@ impl Calls {
         ensures ok { OnOk result (self.new ≡ puts_call number (new_call originator request) self.old) }
         ensures err { OnErr result (self.new ≡ self.old) }
     {
+        let parts = made_parts(alloc, self.segments, &request)?;
         let call = Call::new(alloc, originator, request)?;
         let tally = Tally::new(alloc, self.segments)?;
-        self.table.insert(number, Row { call, tally })?;
+        self.table.insert(number, Row { call, tally, parts })?;
         Ok(())
     }
 
@@ -62,7 +64,7 @@ impl Calls {
         Ok(())
     }
 
-    /// The call is answered.
+    /// The call is answered, and nothing is booked for it any longer.
     pub fn answer(&mut self, number: CallId, outcome: Outcome)
         ensures { self.new ≡ changes_call number (λ call. record call { outcome = Some outcome }) self.old }
     {

@@ -1,16 +1,15 @@
 //! The answers of calls.
 
-ghost use Rattle.std.specs.Prelude.{◌≡◌, true, None, Some, IfOk, OnErr, OnOk};
-ghost use Rattle.cluster_model.specs.Answers.{answered, can_answer, evidence_of, first_of, given_up, is_whole, outcome_of, whole_outcome};
+ghost use Rattle.std.specs.Prelude.{◌≡◌, true, None, Some, is_none, IfOk, OnErr, OnOk};
+ghost use Rattle.cluster_model.specs.Answers.{answered, can_answer, first_of, given_up, is_whole, outcome_of, whole_outcome};
 ghost use Rattle.cluster_model.specs.Calls.{incomplete};
 ghost use Rattle.cluster_model.specs.State.{call_of};
 
 use crate::cluster::{Core, first_lost};
 use crate::same::same_outcome;
 use cluster_calls::Call;
-use grid_base::{CallId, Entries, NoMemory, SegmentId};
+use grid_base::{CallId, NoMemory, SegmentId};
 use grid_event::{AnswerEvent, Outcome};
-use pipeline_eval::run_plain_pipeline;
 use std::alloc::Global;
 
 impl Core {
@@ -42,7 +41,7 @@ impl Core {
         Ok(())
     }
 
-    /// The outcome of the call at this moment. None comes exactly where it has none yet. The only
+    /// The outcome of the call, which isn't answered, at this moment. None comes exactly where it has none yet. The only
     /// failure is that memory runs out.
     #[tactic(auto, unfolding(cluster_model::specs::Answers::outcome_of))]
     pub(crate) fn outcome(
@@ -51,7 +50,8 @@ impl Core {
         number: CallId,
         call: &Call,
     ) -> Result<Option<Outcome>, NoMemory>
-        requires { call_of self.now number ≡ Some call.now }
+        requires there { call_of self.now number ≡ Some call.now }
+        requires unanswered { is_none call.now.outcome ≡ true }
         ensures { IfOk result (λ outcome. outcome ≡ outcome_of self.now number call.now) }
     {
         if !self.store.is_live(call.originator()) {
@@ -82,27 +82,20 @@ impl Core {
         !self.has_open(number)
     }
 
-    /// The outcome of a call that is whole: the value of its pipeline over its evidence, or the end
-    /// of a walk. The only failure is that memory runs out.
+    /// The outcome of a call that is whole and isn't answered: the value of its pipeline over its
+    /// evidence, finished from what is booked, or the end of a walk. The only failure is that memory
+    /// runs out.
     fn whole_outcome(&self, alloc: Global, number: CallId, call: &Call) -> Result<Outcome, NoMemory>
-        requires { call_of self.now number ≡ Some call.now }
+        requires there { call_of self.now number ≡ Some call.now }
+        requires unanswered { is_none call.now.outcome ≡ true }
+        requires whole { is_whole self.now number call.now ≡ true }
         ensures { IfOk result (λ outcome. outcome ≡ whole_outcome self.now number call.now) }
     {
         if call.is_walk() {
             return Ok(Outcome::Ended);
         }
-        let evidence = self.evidence(alloc, number, call)?;
-        let answer = run_plain_pipeline(alloc, &call.request().pipeline, &evidence)?;
+        let answer = self.calls.answer_of(alloc, number)?;
         Ok(Outcome::Value(answer))
-    }
-
-    /// What counts for the call. The only failure is that memory runs out.
-    fn evidence(&self, alloc: Global, number: CallId, call: &Call) -> Result<Entries, NoMemory>
-        requires { call_of self.now number ≡ Some call.now }
-        ensures { IfOk result (λ entries. entries.list ≡ evidence_of self.now number call.now) }
-    {
-        let entries = self.calls.evidence(alloc, number)?;
-        Ok(entries)
     }
 
     /// The least segment that is incomplete for the call.

@@ -64,15 +64,9 @@ impl Core {
                 Ok(())
             }
             Event::Join { node } => self.join(alloc, *node),
-            Event::Depart { node } => {
-                self.depart(*node);
-                Ok(())
-            }
+            Event::Depart { node } => self.depart(alloc, *node),
             Event::Announce(topology) => self.announce(alloc, topology.get()),
-            Event::Install { node, id } => {
-                self.install(*node, *id);
-                Ok(())
-            }
+            Event::Install { node, id } => self.install(alloc, *node, *id),
             Event::Copy(copy) => self.copy(alloc, copy.get()),
             Event::Land { receiver, segment } => self.land(alloc, *receiver, *segment),
             Event::Invoke(invoke) => self.invoke(alloc, invoke.get()),
@@ -84,10 +78,7 @@ impl Core {
             Event::Scan(scan) => self.scan(alloc, scan.get()),
             Event::Fetch(fetch) => self.fetch(alloc, fetch.get()),
             Event::Take(take) => self.take_batch(alloc, take.get()),
-            Event::Done { unit } => {
-                self.end(*unit);
-                Ok(())
-            }
+            Event::Done { unit } => self.end(alloc, *unit),
             Event::Answer(answer) => self.answer(alloc, answer.get()),
         }
     }

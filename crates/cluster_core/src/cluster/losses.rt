@@ -2,7 +2,6 @@
 
 ghost use Rattle.std.specs.Prelude.{◌≡◌, ℕ, ◌&&◌, nat_lt, not, true, OnErr, OnOk};
 ghost use Rattle.std.specs.FinSet as set_of;
-ghost use Rattle.topology_coord.specs.Coordination.{topology_of};
 ghost use Rattle.topology_phase.specs.Owners.{among};
 ghost use Rattle.topology_phase.specs.Topologies.{read_owners};
 ghost use Rattle.cluster_model.specs.Topologies.{announced, can_announce, can_depart, can_install, can_join, departed, installed, joined};
@@ -57,15 +56,17 @@ impl Core {
     }
 
     /// The node departs: its open units are lost, and unanswered calls that ask again note the
-    /// segments that are lost with it.
-    pub(crate) fn depart(&mut self, node: NodeId)
+    /// segments that are lost with it. After want of memory the core is as before.
+    pub(crate) fn depart(&mut self, alloc: Global, node: NodeId) -> Result<(), NoMemory>
         requires { can_depart self.old node ≡ true }
-        ensures { self.new ≡ departed self.old node }
+        ensures ok { OnOk result (self.new ≡ departed self.old node) }
+        ensures err { OnErr result (self.new ≡ self.old) }
     {
         let _ = self.store.coord().newest().segments();
+        self.calls.lose_at(alloc, node)?;
         let lost = self.store.depart(node);
         self.calls.note_losses(&lost);
-        self.calls.lose_at(node);
+        Ok(())
     }
 
     /// The topology is announced. After want of memory the core is as before.
@@ -80,14 +81,21 @@ impl Core {
     }
 
     /// The node installs the newest topology: its running units on segments that it doesn't read any
-    /// longer are lost.
-    pub(crate) fn install(&mut self, node: NodeId, id: TopologyId)
+    /// longer are lost. After want of memory the core is as before.
+    pub(crate) fn install(
+        &mut self,
+        alloc: Global,
+        node: NodeId,
+        id: TopologyId,
+    ) -> Result<(), NoMemory>
         requires { can_install self.old node id ≡ true }
-        ensures { self.new ≡ installed self.old node id }
+        ensures ok { OnOk result (self.new ≡ installed self.old node id) }
+        ensures err { OnErr result (self.new ≡ self.old) }
     {
-        self.store.install(node, id);
         let unread = unread(&self.store, node);
-        self.calls.cease(node, &unread, id);
+        self.calls.cease(alloc, node, &unread, id)?;
+        self.store.install(node, id);
+        Ok(())
     }
 
     /// The chunk is sent. After want of memory the core is as before.
@@ -116,17 +124,28 @@ impl Core {
     }
 }
 
-/// The segments that the node doesn't read by the topology that it has installed.
+/// The segments that the node doesn't read by the newest topology.
 fn unread(store: &Store, node: NodeId) -> SegmentSet
-    ensures { (segment : ℕ) → set_of.contains result segment ≡ (nat_lt segment store.now.config.segments && not (among node (read_owners (topology_of store.now.coord node) segment))) }
+    ensures { (segment : ℕ) → set_of.contains result segment ≡ (nat_lt segment store.now.config.segments && not (among node (read_owners store.now.coord.newest segment))) }
 {
     let mut unread = SegmentSet::new();
     for number in 0..store.config().segments {
         let segment = SegmentId::new(number);
-        if store.reads(node, segment) {
+        if reads(store.coord().newest(), node, segment) {
             continue;
         }
         unread.add(segment);
     }
     unread
+}
+
+/// Whether the node reads the segment by the topology.
+#[tactic(auto, using(cluster_store::proofs::PastOwners::readers_past))]
+fn reads(topology: &Topology, node: NodeId, segment: SegmentId) -> bool
+    ensures { result ≡ among node (read_owners topology.now segment) }
+{
+    if segment.number() >= topology.segments() {
+        return false;
+    }
+    topology.read_owners(segment).has(node)
 }

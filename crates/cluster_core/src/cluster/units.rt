@@ -94,12 +94,15 @@ impl Core {
         !unit.flies()
     }
 
-    /// The unit has ended, and its segment is complete for its call.
-    pub(crate) fn end(&mut self, number: UnitId)
+    /// The unit has ended, and its segment is complete for its call. After want of memory the core
+    /// is as before.
+    pub(crate) fn end(&mut self, alloc: Global, number: UnitId) -> Result<(), NoMemory>
         requires { can_end self.old number ≡ true }
-        ensures { self.new ≡ ended_unit self.old number }
+        ensures ok { OnOk result (self.new ≡ ended_unit self.old number) }
+        ensures err { OnErr result (self.new ≡ self.old) }
     {
-        self.calls.end(number);
+        self.calls.end(alloc, number)?;
+        Ok(())
     }
 
     /// How many entries the call reads at a time; 0 where it isn't there.

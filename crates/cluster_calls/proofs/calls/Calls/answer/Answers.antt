@@ -6,6 +6,7 @@ use Rattle.std.specs.Ordering.{nat_cmp}
 use Rattle.cluster_calls.specs.Insides.{IsCalls, calling_of}
 use Rattle.cluster_calls.specs.Rows.{Rows, calls_in, changes_row, with_outcome}
 use Rattle.cluster_calls.proofs.CallsLaws.{rows_kept}
+use Rattle.cluster_calls.proofs.PartLaws.{pieced_call}
 use Rattle.cluster_calls.proofs.RightLaws.{after_call}
 use Rattle.cluster_calls.proofs.RowTables.{calls_in-changed}
 use Rattle.cluster_calls.proofs.calls.Calls.answer.Goals as goal
@@ -15,7 +16,8 @@ invariant_of-self c =
     let change = with_outcome c.args.outcome in
     subst (λ (t : Rows). IsCalls (record c.self.inside { table = t })) (sym c.answer.ensures)
     (rows_kept c.self.inside c.self.invariant (changes_row c.args.number change c.self.inside.table)
-    (after_call c.self.inside.segments c.self.inside.units.items c.self.inside.table c.args.number change (λ row. refl) (λ row. refl) c.self.invariant.right))
+    (after_call c.self.inside.segments c.self.inside.units.items c.self.inside.table c.args.number change (λ row. refl) (λ row. refl) c.self.invariant.right)
+    (pieced_call c.self.inside.segments c.self.inside.units.items c.self.inside.table c.args.number change c.self.invariant.pieced (λ row has. refl)))
 
 pub returns : goal.returns
 returns c =

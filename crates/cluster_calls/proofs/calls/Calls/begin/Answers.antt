@@ -1,4 +1,4 @@
-use Rattle.std.proofs.Common.{◌≡◌, Bool, true, nat_le, if◌then◌else◌, Some, is_some, refl, sym, subst, ap, ◌∙◌, arith}
+use Rattle.std.proofs.Common.{◌≡◌, Bool, true, nat_le, if◌then◌else◌, None, Some, is_some, refl, sym, subst, ap, ◌∙◌, arith}
 use Rattle.std.specs.FinMap as map_of
 use Rattle.std.specs.Prelude.{slice_get}
 use Rattle.local_publisher.specs.Units.{begun}
@@ -7,10 +7,13 @@ use Rattle.local_publisher.specs.declared.unit_state.UnitState.TheVariants.{Runn
 use Rattle.cluster_model.specs.State.{Unit, is_asked, is_ended, is_open_unit, is_running}
 use Rattle.local_publisher.specs.Stages.{is_open}
 use Rattle.cluster_calls.specs.Calling.{Calling, changes_unit, is_one, unit_in, may_begin}
+use Rattle.cluster_calls.specs.Parts.{has_begun, is_booked}
 use Rattle.cluster_calls.specs.Rows.{calls_in, changes_row, may_close, with_row_without_open}
 use Rattle.cluster_calls.proofs.CallsLaws.{changed_kept, changed_seen, numbers, read_unit, asked_open, may_close_it}
 use Rattle.cluster_calls.proofs.ListLaws.{within_get}
-use Rattle.cluster_calls.proofs.RightLaws.{there, after_closed, after_same, and_left}
+use Rattle.cluster_calls.proofs.PartLaws.{booking_none, pieced_closed, pieced_open}
+use Rattle.cluster_calls.proofs.RightLaws.{there, after_closed, after_same}
+use Rattle.cluster_calls.proofs.BothLaws.{and_left}
 use Rattle.cluster_calls.proofs.RowTables.{calls_in-same}
 use Rattle.cluster_calls.proofs.calls.Calls.begin.Goals as goal
 
@@ -42,9 +45,11 @@ close-requires c =
     let place = c.self.invariant.right.placed c.place_of-place.result h.unit at in
     let flew : is_some h.unit.flying ≡ true → is_running h.unit.work.state ≡ true = place.running in
     let call = c.call-call.ensures ∙ ap (λ (u : Unit). u.work.call) is in
+    let segment = c.segment-segment.ensures ∙ ap (λ (u : Unit). u.work.segment) is in
     let open_ : is_open_unit h.unit ≡ true = ap is_open state in
-    subst (λ n. is_one may_close (map_of.get c.self.inside.table n) ≡ true) (sym call)
-    (may_close_it c.self.inside.segments units c.self.inside.table c.place_of-place.result h.unit c.self.invariant.right at open_)
+    subst (λ n. is_one (may_close c.segment-segment.result) (map_of.get c.self.inside.table n) ≡ true) (sym call)
+    (subst (λ s. is_one (may_close s) (map_of.get c.self.inside.table h.unit.work.call) ≡ true) (sym segment)
+    (may_close_it c.self.inside.segments units c.self.inside.table c.place_of-place.result h.unit c.self.invariant.right c.self.invariant.pieced at open_))
 
 pub invariant_of-self : goal.invariant_of-self
 invariant_of-self c =
@@ -57,16 +62,20 @@ invariant_of-self c =
     let place = c.self.invariant.right.placed c.place_of-place.result h.unit at in
     let flew : is_some h.unit.flying ≡ true → is_running h.unit.work.state ≡ true = place.running in
     let call = c.call-call.ensures ∙ ap (λ (u : Unit). u.work.call) is in
+    let segment = c.segment-segment.ensures ∙ ap (λ (u : Unit). u.work.segment) is in
     let open_ : is_open_unit h.unit ≡ true = ap is_open state in
     let after : Unit = record h.unit { work = begun h.unit.work c.args.runs c.args.at } in
     let stage : (b : Bool) → UnitState = λ b. if b then Running else Refused c.args.at in
     let landed : is_some h.unit.flying ≡ true → is_running after.work.state ≡ true = λ e. absurd (let w = sym (flew e) ∙ ap is_running state in cc) in
     changed_kept c.self.inside c.self.invariant c.place_of-place.result h.unit after c.begin.new.self
-    (changes_row h.unit.work.call with_row_without_open c.self.inside.table) c.close.new.self c.self.inside.read at
+    (changes_row h.unit.work.call (with_row_without_open h.unit.work.segment None) c.self.inside.table) c.close.new.self c.self.inside.read at
     (c.begin.ensures ∙ ap (λ (u : Unit). record u { work = begun u.work c.args.runs c.args.at }) is)
-    (c.close.ensures ∙ ap (λ n. changes_row n with_row_without_open c.self.inside.table) call) refl c.self.invariant.few
-    (after_closed c.self.inside.segments units c.self.inside.table c.place_of-place.result h.unit after c.self.invariant.right at (record { id = refl; call = refl; segment = refl })
+    (c.close.ensures ∙ (λ i. changes_row (call i) (with_row_without_open (segment i) None) c.self.inside.table)) refl c.self.invariant.few
+    (after_closed c.self.inside.segments units c.self.inside.table c.place_of-place.result h.unit after h.unit.work.segment None c.self.invariant.right at (record { id = refl; call = refl; segment = refl })
     landed open_ (ap (λ b. is_open (stage b)) c.if-not-runs.true) (ap (λ b. is_ended (stage b)) c.if-not-runs.true ∙ sym (ap is_ended state)))
+    (pieced_closed c.self.inside.segments units c.self.inside.table c.place_of-place.result h.unit after None (with_row_without_open h.unit.work.segment None) c.self.invariant.pieced at
+    (record { id = refl; call = refl; segment = refl }) open_ (λ e. open_) (λ e. c.self.invariant.pieced.unread c.place_of-place.result h.unit at (ap has_begun state)) (λ row. refl) (λ row. refl)
+    (λ row g. booking_none units after row.call (ap (λ (b : Bool). is_booked row.call (record h.unit { work = begun h.unit.work b c.args.at })) c.if-not-runs.true)))
 
 pub invariant_of-self-else-not-runs : goal.invariant_of-self-else-not-runs
 invariant_of-self-else-not-runs c =
@@ -79,6 +88,7 @@ invariant_of-self-else-not-runs c =
     let place = c.self.invariant.right.placed c.place_of-place.result h.unit at in
     let flew : is_some h.unit.flying ≡ true → is_running h.unit.work.state ≡ true = place.running in
     let call = c.call-call.ensures ∙ ap (λ (u : Unit). u.work.call) is in
+    let segment = c.segment-segment.ensures ∙ ap (λ (u : Unit). u.work.segment) is in
     let open_ : is_open_unit h.unit ≡ true = ap is_open state in
     let after : Unit = record h.unit { work = begun h.unit.work c.args.runs c.args.at } in
     let stage : (b : Bool) → UnitState = λ b. if b then Running else Refused c.args.at in
@@ -87,6 +97,8 @@ invariant_of-self-else-not-runs c =
     (c.begin.ensures ∙ ap (λ (u : Unit). record u { work = begun u.work c.args.runs c.args.at }) is) refl refl c.self.invariant.few
     (after_same c.self.inside.segments units c.self.inside.table c.place_of-place.result h.unit after c.self.invariant.right at (record { id = refl; call = refl; segment = refl })
     landed (ap (λ b. is_open (stage b)) c.if-not-runs.false ∙ sym open_) (ap (λ b. is_ended (stage b)) c.if-not-runs.false ∙ sym (ap is_ended state)))
+    (pieced_open c.self.inside.segments units c.self.inside.table c.place_of-place.result h.unit after c.self.invariant.pieced at
+    (record { id = refl; call = refl; segment = refl }) open_ (ap (λ b. is_open (stage b)) c.if-not-runs.false) (λ e. c.self.invariant.pieced.unread c.place_of-place.result h.unit at (ap has_begun state)))
 
 pub returns-then-not-runs : goal.returns-then-not-runs
 returns-then-not-runs c =
@@ -97,7 +109,7 @@ returns-then-not-runs c =
     let is = read_unit units c.place_of-place.result h.unit c.index_mut-unit.result.now at c.index_mut-unit.ensures.value in
     changed_seen c.self.inside c.self.invariant c.args.unit c.place_of-place.result h.unit c.begin.new.self c.close.new.self (λ u. record u { work = begun u.work c.args.runs c.args.at })
     c.place_of-place.ensures h.positive h.at (c.begin.ensures ∙ ap (λ (u : Unit). record u { work = begun u.work c.args.runs c.args.at }) is)
-    (ap calls_in c.close.ensures ∙ calls_in-same c.self.inside.table c.call-call.result with_row_without_open (λ row. refl))
+    (ap calls_in c.close.ensures ∙ calls_in-same c.self.inside.table c.call-call.result (with_row_without_open c.segment-segment.result None) (λ row. refl))
     ∙ ap (changes_unit c.args.unit (λ u. record u { work = begun u.work c.args.runs c.args.at })) c.self.view_is
 
 pub returns-else-not-runs : goal.returns-else-not-runs

@@ -2,6 +2,7 @@ use Rattle.std.proofs.Common.{◌≡◌, cond, ◌&&◌, ◌==◌, Some, None, s
 use Rattle.std.specs.Prelude.{slice_get, slice_set}
 use Rattle.cluster_model.specs.State.{Unit, is_open_unit, with_loss}
 use Rattle.cluster_calls.specs.Calling.{Calling, is_one, with_departure}
+use Rattle.cluster_calls.specs.Parts.{booking_in}
 use Rattle.cluster_calls.proofs.CallsLaws.{read_unit}
 use Rattle.cluster_calls.proofs.ListLaws.{get_within}
 use Rattle.cluster_calls.proofs.QueryLaws.{unchanged_at}
@@ -22,12 +23,20 @@ returns-then-not-is_at c = λ u g.
     (ap (λ b. cond (b && (u.work.node == c.args.node)) (with_loss None u) u) (sym (c.if-not-is_open.ensures ∙ ap is_open_unit is))
     ∙ ap (λ b. cond b (with_loss None u) u) (sym (c.if-not-is_at.ensures ∙ ap (λ (v : Unit). v.work.node == c.args.node) is)))
 
-pub lose-requires : goal.lose-requires
-lose-requires c =
-    let h = get_within c.args.self.now.units c.args.place c.requires in
+pub lose-requires-clause-open : goal.lose-requires-clause-open
+lose-requires-clause-open c =
+    let h = get_within c.args.self.now.units c.args.place c.requires.place in
     let at : slice_get c.self.inside.units.items c.args.place ≡ Some h.0 = subst (λ (x : Calling). slice_get x.units c.args.place ≡ Some h.0) (sym c.self.view_is) h.1 in
     let is = read_unit c.self.inside.units.items c.args.place h.0 c.index-unit.result.now at c.index-unit.ensures in
     ap (is_one is_open_unit) h.1 ∙ sym (c.if-not-is_open.ensures ∙ ap is_open_unit is)
+
+pub lose-requires-clause-part : goal.lose-requires-clause-part
+lose-requires-clause-part c = λ u g.
+    let at : slice_get c.self.inside.units.items c.args.place ≡ Some u = subst (λ (x : Calling). slice_get x.units c.args.place ≡ Some u) (sym c.self.view_is) g in
+    let is = read_unit c.self.inside.units.items c.args.place u c.index-unit.result.now at c.index-unit.ensures in
+    c.requires.part u g
+    ∙ ap (λ b. cond (b && (u.work.node == c.args.node)) (booking_in c.args.self.now (with_loss None u)) None) (sym (c.if-not-is_open.ensures ∙ ap is_open_unit is))
+    ∙ ap (λ b. cond b (booking_in c.args.self.now (with_loss None u)) None) (sym (c.if-not-is_at.ensures ∙ ap (λ (v : Unit). v.work.node == c.args.node) is))
 
 pub returns : goal.returns
 returns c = λ u g.

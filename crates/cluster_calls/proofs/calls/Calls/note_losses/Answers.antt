@@ -1,4 +1,4 @@
-use Rattle.std.proofs.Common.{◌≡◌, is_some, sym, subst, ap, ◌∙◌}
+use Rattle.std.proofs.Common.{◌≡◌, is_some, refl, sym, subst, ap, ◌∙◌}
 use Rattle.std.specs.FinMap as map_of
 use Rattle.std.specs.FinMap.{nat_cmp-IsAntisymmetric}
 use Rattle.std.specs.Cmp.{nat_cmp_total}
@@ -8,9 +8,11 @@ use Rattle.cluster_model.specs.State.{Call}
 use Rattle.cluster_model.specs.Topologies.{each_call, notes_losses}
 use Rattle.cluster_calls.specs.Calling.{Calling}
 use Rattle.cluster_calls.specs.Insides.{IsCalls, calling_of}
+use Rattle.cluster_calls.specs.Parts.{HasParts}
 use Rattle.cluster_calls.specs.Rows.{Rows, calls_in, each_row, notes}
 use Rattle.cluster_calls.specs.declared.row.Row.{Row}
 use Rattle.cluster_calls.proofs.CallsLaws.{rows_kept}
+use Rattle.cluster_calls.proofs.PartLaws.{pieced_rows, same_request}
 use Rattle.cluster_calls.proofs.RightLaws.{mapped_some, right_rows, row_alike, some_mapped}
 use Rattle.cluster_calls.proofs.RowTables.{get-calls_in, get-each_call, get-each_row}
 use Rattle.cluster_calls.proofs.NoteLaws.{noted_alike}
@@ -27,7 +29,11 @@ invariant_of-self c =
     (λ m. ap is_some (get-each_row (notes lost) rows m) ∙ some_mapped (notes lost) (map_of.get rows m))
     (λ n row at.
     let was = mapped_some (notes lost) (map_of.get rows n) row (sym (get-each_row (notes lost) rows n) ∙ at) in
-    row_alike c.self.inside.segments c.self.inside.units.items n was.0 row (ap (λ (r : Row). r.call.last_round) was.2) (ap (λ (r : Row). r.tally) was.2) (right.kept n was.0 was.1))))
+    row_alike c.self.inside.segments c.self.inside.units.items n was.0 row (ap (λ (r : Row). r.call.last_round) was.2) (ap (λ (r : Row). r.tally) was.2) (right.kept n was.0 was.1)))
+    (pieced_rows c.self.inside.segments c.self.inside.units.items rows (each_row (notes lost) rows) c.self.invariant.pieced (λ n row at.
+    let was = mapped_some (notes lost) (map_of.get rows n) row (sym (get-each_row (notes lost) rows n) ∙ at) in
+    subst (λ (r : Row). HasParts c.self.inside.segments c.self.inside.units.items n r.call r.parts) (sym was.2)
+    (same_request c.self.inside.segments c.self.inside.units.items n was.0.call (notes lost was.0).call refl refl was.0.parts (c.self.invariant.pieced.parts n was.0 was.1)))))
 
 pub returns : goal.returns
 returns c = λ segments alike.

@@ -8,15 +8,17 @@ use Rattle.cluster_model.specs.Calls.{granted}
 use Rattle.cluster_model.specs.State.{Call, Unit}
 use Rattle.cluster_model.specs.Units.{read_by}
 use Rattle.cluster_calls.specs.Calling.{Calling, call_in, is_one, round_of, unit_made, with_call, with_round}
-use Rattle.cluster_calls.specs.Insides.{AreRight}
+use Rattle.cluster_calls.specs.Insides.{ArePieced, AreRight}
 use Rattle.cluster_calls.specs.Rows.{Rows, calls_in, changes_row, with_row_asks}
 use Rattle.cluster_calls.specs.Tallied.{AreAsked}
 use Rattle.cluster_calls.specs.declared.row.Row.{Row}
 use Rattle.cluster_calls.proofs.CallsLaws.{seen_alike}
 use Rattle.cluster_calls.proofs.ListLaws.{length-filter}
-use Rattle.cluster_calls.proofs.QueryLaws.{less_than, one_is_there, none_counts, read_by-asked}
+use Rattle.cluster_calls.proofs.PartRounds.{pieced_asks}
+use Rattle.cluster_calls.proofs.QueryLaws.{one_is_there, none_counts, read_by-asked}
 use Rattle.cluster_calls.proofs.RoundLaws.{AreNext, after_asks, are_asked}
 use Rattle.cluster_calls.proofs.RowTables.{calls_in-changed, get-calls_in, one_there}
+use Rattle.cluster_calls.proofs.BothLaws.{less_than}
 use Rattle.cluster_calls.proofs.UnitLaws.{is_busy}
 use Rattle.cluster_calls.proofs.calls.Calls.round.Goals as goal
 
@@ -55,6 +57,10 @@ invariant_of-self-2 c =
           subst (λ (us : List Unit). AreRight c.self.inside.segments us c.ask.new.self) (sym items)
           (subst (λ (t : Rows). AreRight c.self.inside.segments (units ++ map (unit_made c.args.number c.args.id) asks) t) (sym table)
           (after_asks c.self.inside.segments units c.self.inside.table c.args.number c.args.id asks c.self.invariant.right there_ next));
+      pieced =
+          subst (λ (us : List Unit). ArePieced c.self.inside.segments us c.ask.new.self) (sym items)
+          (subst (λ (t : Rows). ArePieced c.self.inside.segments (units ++ map (unit_made c.args.number c.args.id) asks) t) (sym table)
+          (pieced_asks c.self.inside.segments units c.self.inside.table c.args.number c.args.id asks c.self.invariant.pieced next));
       numbered =
           omega (arith, ap length items, length-append units (map (unit_made c.args.number c.args.id) asks), length-map asks (unit_made c.args.number c.args.id), ap length c.as_slice-units.ensures.value);
       counted = c.self.invariant.counted ∙ sym (read_by-asked units c.args.number c.args.id asks) ∙ ap read_by (sym items);

@@ -4,11 +4,13 @@ use Rattle.grid_base.specs.Portion.{Portion}
 use Rattle.grid_base.specs.declared.limits.TheConstants.{MOST_READ}
 use Rattle.cluster_model.specs.Units.{read_by}
 use Rattle.grid_base.specs.declared.entry.Entry.{Entry}
+use Rattle.local_publisher.specs.Stages.{is_open}
 use Rattle.local_publisher.specs.Units.{extended}
 use Rattle.cluster_model.specs.State.{Unit}
 use Rattle.cluster_calls.specs.Calling.{Calling, changes_unit, is_one, unit_in, may_read}
 use Rattle.cluster_calls.proofs.CallsLaws.{changed_kept, changed_seen, nothing_flies, numbers, read_unit, may_read_is}
 use Rattle.cluster_calls.proofs.ListLaws.{within_get}
+use Rattle.cluster_calls.proofs.PartLaws.{began, pieced_open}
 use Rattle.cluster_calls.proofs.RightLaws.{there, after_same}
 use Rattle.cluster_calls.proofs.calls.Calls.scan.Goals as goal
 
@@ -45,6 +47,8 @@ invariant_of-self-2 c =
     (omega (arith, more, length-append h.unit.work.entries c.args.batch.entries)) (omega (arith, more, few, c.self.invariant.counted))
     (after_same c.self.inside.segments units c.self.inside.table c.place_of-place.result h.unit after c.self.invariant.right at (record { id = refl; call = refl; segment = refl })
     (nothing_flies h.unit.flying state.landed) refl refl)
+    (pieced_open c.self.inside.segments units c.self.inside.table c.place_of-place.result h.unit after c.self.invariant.pieced at (record { id = refl; call = refl; segment = refl })
+    (ap is_open state.running) (ap is_open state.running) (began h.unit.work.state state.running))
 
 pub returns-clause-ok : goal.returns-clause-ok
 returns-clause-ok c =

@@ -2,13 +2,15 @@ use Rattle.std.proofs.Common.{◌≡◌, true, Some, None, refl, sym, subst, ap,
 use Rattle.std.specs.Option.{option_map}
 use Rattle.std.specs.FinMap as map_of
 use Rattle.std.specs.Prelude.{slice_get, slice_set}
+use Rattle.local_publisher.specs.Stages.{is_open}
 use Rattle.cluster_model.specs.State.{Unit, with_unit}
 use Rattle.cluster_calls.specs.Calling.{Calling, call_in, flies, is_one, taking_of, unit_in, with_call, with_taken}
 use Rattle.cluster_calls.specs.Insides.{calling_of}
 use Rattle.cluster_calls.specs.Rows.{calls_in, changes_row, with_row_taken}
 use Rattle.cluster_calls.specs.declared.row.Row.{Row}
-use Rattle.cluster_calls.proofs.CallsLaws.{changed_kept, numbers, read_unit, seen_alike}
+use Rattle.cluster_calls.proofs.CallsLaws.{changed_kept, numbers, read_unit, running_is, seen_alike}
 use Rattle.cluster_calls.proofs.ListLaws.{within_get}
+use Rattle.cluster_calls.proofs.PartLaws.{began, pieced_call, pieced_open, same_request}
 use Rattle.cluster_calls.proofs.RightLaws.{after_call, after_same, there, with_unit-there}
 use Rattle.cluster_calls.proofs.RowTables.{calls_in-changed, get-calls_in}
 use Rattle.cluster_calls.proofs.calls.Calls.take.Goals as goal
@@ -58,11 +60,16 @@ invariant_of-self-2 c =
     let table : c.take.new.self ≡ changes_row h.unit.work.call change c.self.inside.table =
     c.in_ok-take.ensures.ok ∙ (λ k. changes_row (call k) (with_row_taken (segment k) entries c.args.given) c.self.inside.table) in
     let after : Unit = record h.unit { flying = None } in
+    let runs = running_is h.unit.work.state ((c.self.invariant.right.placed c.place_of-place.result h.unit at).running h.passes) in
     changed_kept c.self.inside c.self.invariant c.place_of-place.result h.unit after c.land.new.self (changes_row h.unit.work.call change c.self.inside.table) c.take.new.self c.self.inside.read at
     (c.land.ensures ∙ ap (λ (u : Unit). record u { flying = None }) is) table refl c.self.invariant.few
     (after_same c.self.inside.segments units (changes_row h.unit.work.call change c.self.inside.table) c.place_of-place.result h.unit after
     (after_call c.self.inside.segments units c.self.inside.table h.unit.work.call change (λ row. refl) (λ row. refl) c.self.invariant.right) at
     (record { id = refl; call = refl; segment = refl }) (λ e. absurd (cc)) refl refl)
+    (pieced_open c.self.inside.segments units (changes_row h.unit.work.call change c.self.inside.table) c.place_of-place.result h.unit after
+    (pieced_call c.self.inside.segments units c.self.inside.table h.unit.work.call change c.self.invariant.pieced
+    (λ row has. same_request c.self.inside.segments units h.unit.work.call row.call (change row).call refl refl row.parts has)) at
+    (record { id = refl; call = refl; segment = refl }) (ap is_open runs) (ap is_open runs) (began h.unit.work.state runs))
 
 pub returns-clause-ok : goal.returns-clause-ok
 returns-clause-ok c =

@@ -1,4 +1,4 @@
-use Rattle.std.proofs.Common.{refl, IsSome, subst, ap, ◌∙◌}
+use Rattle.std.proofs.Common.{refl, IsSome, None, subst, ap, ◌∙◌}
 use Rattle.cluster_calls.specs.Rows.{changes_row, with_outcome}
 use Rattle.cluster_model.specs.State.{Call}
 use Rattle.cluster_calls.proofs.RowTables.{rows_changed, rows_in, rows_unchanged}
@@ -10,9 +10,9 @@ returns-in-Some c =
     let es = c.self.inside.rows.entries in
     let was = c.in-Some.row.now in
     let change = with_outcome c.args.outcome in
-    let left = record was { call = c.answer.new.self } in
+    let left = record was { call = c.answer.new.self; parts = None } in
     rows_changed es (c.get_mut.follows.lender left).entries c.number.result change was left c.in-Some.ensures.value
-    (ap (λ (call : Call). record was { call = call }) c.answer.ensures) ((c.get_mut.follows.holds left).3 found).0
+    (ap (λ (call : Call). record was { call = call; parts = None }) c.answer.ensures) ((c.get_mut.follows.holds left).3 found).0
     ∙ ap (λ n. changes_row n change (rows_in es)) c.number.ensures
     ∙ ap (changes_row c.args.number change) c.self.view_is
 

@@ -1,4 +1,4 @@
--- The segments that are lost are noted, and open units at the node are lost.
+-- Open units at the node are lost, and the segments that are lost are noted.
 use Rattle.std.proofs.Common.{subst, ap, ◌∙◌}
 use Rattle.topology_coord.specs.Coordination.{Coordination, lost_segments}
 use Rattle.topology_phase.specs.Topologies.{IsTopology}
@@ -9,18 +9,18 @@ use Rattle.cluster_core.proofs.cluster.Core.depart.Goals as goal
 pub depart-lost-requires : goal.depart-lost-requires
 depart-lost-requires c = depart_may c.self.inside c.args.self.now c.args.node c.self.view_is c.requires
 
-pub invariant_of-self : goal.invariant_of-self
-invariant_of-self c =
+pub invariant_of-self-2 : goal.invariant_of-self-2
+invariant_of-self-2 c =
     let coord = c.self.inside.store.coord in
     let newest = c.newest.ensures.newest ∙ ap (λ (x : Coordination). x.newest) c.coord.ensures.coord in
     let kept : IsTopology coord.newest = subst IsTopology newest c.segments.ensures.kept in
     let notes = c.note_losses.ensures (lost_segments coord c.args.node) (λ s. c.depart-lost.ensures.lost s ∙ loses_listed coord c.args.node s kept) in
-    (depart_row c.self.inside c.args.self.now c.args.node c.depart-lost.new.self c.note_losses.new.self c.lose_at.new.self c.self.invariant c.self.view_is c.requires c.depart-lost.ensures.departed notes c.lose_at.ensures).core
+    (depart_row c.self.inside c.args.self.now c.args.node c.depart-lost.new.self c.lose_at.new.self c.note_losses.new.self c.self.invariant c.self.view_is c.requires c.depart-lost.ensures.departed c.in_ok-lose_at.ensures.ok notes).core
 
-pub returns : goal.returns
-returns c =
+pub returns-clause-ok : goal.returns-clause-ok
+returns-clause-ok c =
     let coord = c.self.inside.store.coord in
     let newest = c.newest.ensures.newest ∙ ap (λ (x : Coordination). x.newest) c.coord.ensures.coord in
     let kept : IsTopology coord.newest = subst IsTopology newest c.segments.ensures.kept in
     let notes = c.note_losses.ensures (lost_segments coord c.args.node) (λ s. c.depart-lost.ensures.lost s ∙ loses_listed coord c.args.node s kept) in
-    (depart_row c.self.inside c.args.self.now c.args.node c.depart-lost.new.self c.note_losses.new.self c.lose_at.new.self c.self.invariant c.self.view_is c.requires c.depart-lost.ensures.departed notes c.lose_at.ensures).seen
+    (depart_row c.self.inside c.args.self.now c.args.node c.depart-lost.new.self c.lose_at.new.self c.note_losses.new.self c.self.invariant c.self.view_is c.requires c.depart-lost.ensures.departed c.in_ok-lose_at.ensures.ok notes).seen

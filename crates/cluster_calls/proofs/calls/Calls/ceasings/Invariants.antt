@@ -1,0 +1,10 @@
+use Rattle.std.proofs.Common.{◌≡◌, map, take, length}
+use Rattle.cluster_calls.specs.Parts.{booking_ceased}
+use Rattle.cluster_calls.proofs.calls.Calls.ceasings.Given as goal
+
+abbrev pub invariant-loop-place : goal.invariant-loop-place
+invariant-loop-place l =
+    record {
+      made : l.made.items ≡ map (booking_ceased l.self l.node l.segments l.id) (take l.place l.self.units);
+      count : l.count ≡ length l.self.units;
+    }

@@ -1,0 +1,87 @@
+//! The pieces that are booked for reductions, and units of theirs that end.
+
+ghost use Rattle.std.specs.Prelude.{◌≡◌, true, None, Some, IsErrOf, OnErr, OnOk};
+ghost use Rattle.std.specs.Option.{option_copied};
+ghost use Rattle.grid_event.specs.declared.event.Event.TheVariants as events;
+ghost use Rattle.cluster_model.specs.Step.{after};
+ghost use Rattle.cluster_model.specs.Units.{can_end, ended_unit};
+ghost use Rattle.cluster_core.specs.Parts.{is_ready, part_of, piece_of, ready_at};
+
+use crate::apply_fault::ApplyFault;
+use crate::cluster::Core;
+use cluster_calls::Unit;
+use grid_base::{CallId, NoMemory, NodeId, SegmentId, UnitId};
+use pipeline_split::Piece;
+use std::alloc::Global;
+
+impl Core {
+    /// Lends the piece that is booked for the segment of the call: that of what its units read that
+    /// ended, and of what lost ones read too where the guarantee keeps it. None comes exactly where
+    /// the call isn't a reduction that isn't answered, or where there is no such unit. It takes no
+    /// memory.
+    pub fn part(&self, call: CallId, segment: SegmentId) -> Option<&Piece>
+        ensures { option_copied result ≡ part_of self.now call segment }
+    {
+        self.calls.part(call, segment)
+    }
+
+    /// The least unit of a reduction at the node that may end. None comes exactly where there is
+    /// none. It takes no memory.
+    pub fn ready(&self, node: NodeId) -> Option<UnitId>
+        ensures { result ≡ ready_at self.now node }
+    {
+        let units = self.calls.units();
+        for unit in units {
+            if self.is_ready(node, unit) {
+                return Some(unit.work().id);
+            }
+        }
+        None
+    }
+
+    /// Whether the unit is at the node, its call is a reduction, and it may end.
+    fn is_ready(&self, node: NodeId, unit: &Unit) -> bool
+        ensures { result ≡ is_ready self.now node unit.now }
+    {
+        if unit.node() != node {
+            return false;
+        }
+        if self.walks(unit.call()) {
+            return false;
+        }
+        self.unit_can_end(unit)
+    }
+
+    /// Done of the unit happens, which is of a reduction and of which the piece is given; it isn't
+    /// made of the entries again. Refused comes only where there is no such step; where there is
+    /// none, the answer is Refused. After a fault the core is as before.
+    pub fn apply_done(
+        &mut self,
+        alloc: Global,
+        number: UnitId,
+        piece: Piece,
+    ) -> Result<(), ApplyFault>
+        requires { piece_of self.old number ≡ Some piece }
+        ensures ok { OnOk result (after self.old (events.Done number) ≡ Some self.new) }
+        ensures refused { IsErrOf result ApplyFault.Refused → after self.old (events.Done number) ≡ None }
+        ensures err { OnErr result (self.new ≡ self.old) }
+    {
+        if !self.can_end(number) {
+            return Err(ApplyFault::Refused);
+        }
+        self.end_with(alloc, number, piece)?;
+        Ok(())
+    }
+
+    /// The unit has ended, and its segment is complete for its call, which is a reduction; the piece
+    /// of what it read is given. After want of memory the core is as before.
+    fn end_with(&mut self, alloc: Global, number: UnitId, piece: Piece) -> Result<(), NoMemory>
+        requires may { can_end self.old number ≡ true }
+        requires piece { piece_of self.old number ≡ Some piece }
+        ensures ok { OnOk result (self.new ≡ ended_unit self.old number) }
+        ensures err { OnErr result (self.new ≡ self.old) }
+    {
+        self.calls.end_with(alloc, number, piece)?;
+        Ok(())
+    }
+}
