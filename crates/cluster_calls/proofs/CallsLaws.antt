@@ -18,7 +18,7 @@ use Rattle.local_publisher.specs.declared.unit_state.UnitState.TheVariants.{Aske
 use Rattle.cluster_model.specs.State.{Call, Unit, is_asked, is_ended, is_open_unit, is_running, with_unit}
 use Rattle.cluster_model.specs.Units.{read_by}
 use Rattle.cluster_calls.specs.Calling.{AreNumbered, Calling, call_in, changes_unit, is_one, may_end, may_read, unit_in}
-use Rattle.cluster_calls.specs.Insides.{ArePieced, AreRight, IsCalls, calling_of}
+use Rattle.cluster_calls.specs.Insides.{ArePast, ArePieced, AreRight, IsCalls, calling_of}
 use Rattle.cluster_calls.specs.Parts.{HasParts, is_within}
 use Rattle.cluster_calls.specs.declared.parts.Parts.{Parts}
 use Rattle.reduce_cluster.specs.Reduced.{segments_of}
@@ -27,6 +27,7 @@ use Rattle.cluster_calls.specs.declared.calls.Calls.TheInside.{Inside}
 use Rattle.cluster_calls.proofs.RightLaws.{both_true, itself, read_by-set, with_unit-there}
 use Rattle.cluster_calls.proofs.BothLaws.{and_left, and_right}
 use Rattle.cluster_calls.proofs.ListLaws.{count_some, length-filter, not_some, find_place}
+use Rattle.cluster_calls.proofs.PastLaws.{past_none}
 use Rattle.cluster_calls.proofs.RowTables.{get-calls_in}
 use Rattle.cluster_calls.proofs.RoundLaws.{get-range}
 use Rattle.cluster_calls.proofs.UnitLaws.{is_busy}
@@ -49,26 +50,29 @@ read_unit units i u unit at is = is ∙ get_or_from_slice_get units i u unit at
 pub unit_kept : (fields : Inside) → IsCalls fields → (i : ℕ) (u v : Unit) (table : Rows) (read : ℕ) → slice_get fields.units.items i ≡ Some u
     → read + length u.work.entries ≡ fields.read + length v.work.entries → read ≤ MOST_READ
     → AreRight fields.segments (slice_set fields.units.items i v) table → ArePieced fields.segments (slice_set fields.units.items i v) table
+    → ArePast (slice_set fields.units.items i v) table fields.past
     → IsCalls (record fields { units = with_item fields.units i v; table = table; read = read })
-unit_kept fields kept i u v table read at counted few right pieced = record {
+unit_kept fields kept i u v table read at counted few right pieced past = record {
   few_segments = kept.few_segments;
   right = right;
   pieced = pieced;
   numbered = omega (arith, length-set fields.units.items i v, kept.numbered);
   counted = omega (arith, read_by-set fields.units.items i u v at, kept.counted, counted);
   few = few;
+  past = past;
 }
 
 -- rows are changed alone
 pub rows_kept : (fields : Inside) → IsCalls fields → (table : Rows) → AreRight fields.segments fields.units.items table → ArePieced fields.segments fields.units.items table
-    → IsCalls (record fields { table = table })
-rows_kept fields kept table right pieced = record {
+    → ArePast fields.units.items table fields.past → IsCalls (record fields { table = table })
+rows_kept fields kept table right pieced past = record {
   few_segments = kept.few_segments;
   right = right;
   pieced = pieced;
   numbered = kept.numbered;
   counted = kept.counted;
   few = kept.few;
+  past = past;
 }
 
 -- a unit that is asked is open, hasn't ended, and nothing of it flies
@@ -119,14 +123,17 @@ nothing_flies o none h = absurd (let w = sym h ∙ ap is_some none in cc)
 pub changed_kept : (fields : Inside) → IsCalls fields → (i : ℕ) (u v after : Unit) (table after_table : Rows) (read : ℕ) → slice_get fields.units.items i ≡ Some u
     → after ≡ v → after_table ≡ table → read + length u.work.entries ≡ fields.read + length v.work.entries → read ≤ MOST_READ
     → AreRight fields.segments (slice_set fields.units.items i v) table → ArePieced fields.segments (slice_set fields.units.items i v) table
+    → ArePast (slice_set fields.units.items i v) table fields.past
     → IsCalls (record fields { units = with_item fields.units i after; table = after_table; read = read })
-changed_kept fields kept i u v after table after_table read at unit_is table_is counted few right pieced =
+changed_kept fields kept i u v after table after_table read at unit_is table_is counted few right pieced past =
     unit_kept fields kept i u after after_table read at
     (let same : length after.work.entries ≡ length v.work.entries = ap (λ (x : Unit). length x.work.entries) unit_is in omega (arith, counted, same)) few
     (subst (λ (x : Unit). AreRight fields.segments (slice_set fields.units.items i x) after_table) (sym unit_is)
     (subst (λ (t : Rows). AreRight fields.segments (slice_set fields.units.items i v) t) (sym table_is) right))
     (subst (λ (x : Unit). ArePieced fields.segments (slice_set fields.units.items i x) after_table) (sym unit_is)
     (subst (λ (t : Rows). ArePieced fields.segments (slice_set fields.units.items i v) t) (sym table_is) pieced))
+    (subst (λ (x : Unit). ArePast (slice_set fields.units.items i x) after_table fields.past) (sym unit_is)
+    (subst (λ (t : Rows). ArePast (slice_set fields.units.items i v) t fields.past) (sym table_is) past))
 
 -- then the unit of the number is seen as changed
 pub changed_seen : (fields : Inside) → IsCalls fields → (number i : ℕ) (u after : Unit) (table : Rows) (change : Unit → Unit) → i ≡ number - 1 → 1 ≤ number
@@ -206,8 +213,8 @@ none_there : {X : Type 0} {P : Type 0} (xs : List X) (i : ℕ) (x : X) → xs �
 none_there xs i x none at = not_some x (sym (ap (λ (ys : List _). slice_get ys i) none) ∙ at)
 
 -- nothing was asked yet
-pub nothing_kept : (fields : Inside) → fields.units.items ≡ [] → fields.table ≡ map_of.empty → fields.segments ≤ 256 → fields.read ≡ 0 → IsCalls fields
-nothing_kept fields none empty few read = record {
+pub nothing_kept : (fields : Inside) → fields.units.items ≡ [] → fields.table ≡ map_of.empty → fields.segments ≤ 256 → fields.read ≡ 0 → fields.past ≡ 0 → IsCalls fields
+nothing_kept fields none empty few read past = record {
   few_segments = few;
   right = record {
     placed = λ i u at. none_there fields.units.items i u none at;
@@ -221,6 +228,7 @@ nothing_kept fields none empty few read = record {
   numbered = omega (arith, ap length none);
   counted = read ∙ ap read_by (sym none);
   few = omega (arith, read);
+  past = subst (ArePast fields.units.items fields.table) (sym past) (past_none fields.units.items fields.table);
 }
 
 -- no rows have no calls

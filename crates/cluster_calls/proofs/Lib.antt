@@ -7,10 +7,12 @@ pub mod ListLaws
 pub mod UnitLaws
 pub mod RightLaws
 pub mod RoundLaws
+pub mod PastLaws
 pub mod CallsLaws
 pub mod QueryLaws
 pub mod NoteLaws
 pub mod RoundQueries
+pub mod PastQueries
 pub mod PartLists
 pub mod PartLaws
 pub mod AnswerLaws

@@ -57,7 +57,7 @@ filter_inside p (suc a) c (x ∷ xs) h =
     ∙ filter_inside p a c xs (λ i y e t. (omega (arith, (h (suc i) y e t).0), omega (arith, (h (suc i) y e t).1)))
 
 -- the elements of a stretch by their places
-get-stretch : {X : Type 0} (a c : ℕ) (xs : List X) (i : ℕ) (x : X) → slice_get (take c (drop a xs)) i ≡ Some x → (slice_get xs (a + i) ≡ Some x) × (i < c)
+pub get-stretch : {X : Type 0} (a c : ℕ) (xs : List X) (i : ℕ) (x : X) → slice_get (take c (drop a xs)) i ≡ Some x → (slice_get xs (a + i) ≡ Some x) × (i < c)
 get-stretch zero zero xs i x h = not_some x h
 get-stretch zero (suc c) [] i x h = not_some x h
 get-stretch zero (suc c) (y ∷ xs) zero x h = (h, omega arith)

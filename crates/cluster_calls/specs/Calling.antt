@@ -1,5 +1,5 @@
 -- What a contract sees of the calls of a cluster: the calls, their units, and what is asked of both.
-use Rattle.std.specs.Prelude.{ℕ, ◌+◌, ◌==◌, Bool, false, not, nat_le, ◌&&◌, cond, List, [], ◌++◌, map, reverse, Option, None, Some, is_none, is_some, ◌≡◌, slice_get}
+use Rattle.std.specs.Prelude.{ℕ, ◌+◌, ◌<◌, ◌==◌, Bool, false, not, nat_le, ◌&&◌, cond, List, [], ◌++◌, map, reverse, Option, None, Some, is_none, is_some, ◌≡◌, drop, slice_get}
 use Rattle.std.specs.List.{filter, find, flat_map, list_all, list_any, range_with_len}
 use Rattle.std.specs.FinMap as map_of
 use Rattle.std.specs.FinSet as set_of
@@ -11,6 +11,7 @@ use Rattle.local_publisher.specs.Units.{asked_unit}
 use Rattle.suspect_retry.specs.Rounds.{closed_at}
 use Rattle.topology_phase.specs.Owners.{among}
 use Rattle.cluster_model.specs.Answers.{counts}
+use Rattle.cluster_model.specs.Commands.{is_unanswered}
 use Rattle.cluster_model.specs.State.{Call, Unit, is_asked, is_of, is_on, is_open_unit, is_running, with_loss, with_unit}
 use Rattle.cluster_model.specs.Topologies.{is_complete}
 use Rattle.cluster_calls.specs.Takings.{taken_in}
@@ -74,6 +75,20 @@ caught_up units call installed = list_all (λ (unit : Unit). nat_le (closed_at u
 abbrev pub open_in : Calling → ℕ → List Unit
 open_in calling call =
     flat_map (λ segment. filter (λ unit. is_on call segment unit && is_open_unit unit) calling.units) (range_with_len 0 calling.segments)
+
+-- the unit is open, and its call isn't answered
+abbrev pub is_waiting : Calling → Unit → Bool
+is_waiting calling unit = is_open_unit unit && is_unanswered (call_in calling unit.work.call)
+
+-- no unit waits whose place is below this one
+abbrev pub NoneWaits : Calling → ℕ → Type 0
+NoneWaits calling place = (i : ℕ) (u : Unit) → slice_get calling.units i ≡ Some u → i < place → is_waiting calling u ≡ false
+
+-- the units without some of the first ones, none of which waits
+pub record IsRest (calling : Calling) (units : List Unit) : Type 0 where
+  pub skipped : ℕ
+  pub rest : units ≡ drop skipped calling.units
+  pub none : NoneWaits calling skipped
 
 -- the evidence of a call: segments ascending, of each what its units read that count, in the order of asking
 abbrev pub evidence_in : Calling → ℕ → Call → List Entry

@@ -56,7 +56,12 @@ pub record ArePieced (segments : ℕ) (units : List Unit) (rows : Rows) : Type 0
   pub newest : (i j : ℕ) (u z : Unit) → slice_get units i ≡ Some u → slice_get units j ≡ Some z → is_open_unit u ≡ true → z.work.call ≡ u.work.call → z.work.segment ≡ u.work.segment → j ≤ i
   pub parts : (n : ℕ) (row : Row) → map_of.get rows n ≡ Some row → HasParts segments units n row.call row.parts
 
--- segments are few, all is right and booked, and the entries read are counted
+-- each unit whose place is below this one is closed, or its call is answered
+pub record ArePast (units : List Unit) (rows : Rows) (past : ℕ) : Type 0 where
+  pub within : past ≤ length units
+  pub over : (i : ℕ) (u : Unit) → slice_get units i ≡ Some u → i < past → is_open_unit u ≡ true → (row : Row) → map_of.get rows u.work.call ≡ Some row → is_some row.call.outcome ≡ true
+
+-- segments are few, all is right and booked, the entries read are counted, and the units that are passed over may be
 pub record IsCalls (fields : Inside) : Type 0 where
   pub few_segments : fields.segments ≤ 256
   pub right : AreRight fields.segments fields.units.items fields.table
@@ -64,3 +69,4 @@ pub record IsCalls (fields : Inside) : Type 0 where
   pub numbered : length fields.units.items < 2 ^ 32
   pub counted : fields.read ≡ read_by fields.units.items
   pub few : fields.read ≤ MOST_READ
+  pub past : ArePast fields.units.items fields.table fields.past

@@ -4,12 +4,13 @@ ghost use Rattle.std.specs.Prelude.{◌≡◌, ◌+◌, ◌-◌, ◌<◌, ◌≤
 ghost use Rattle.std.specs.List.{filter, list_all};
 ghost use Rattle.std.specs.Option.{option_copied};
 ghost use Rattle.cluster_model.specs.Answers.{first_of};
+ghost use Rattle.cluster_model.specs.Commands.{is_unanswered};
 ghost use Rattle.cluster_model.specs.State as states;
 ghost use Rattle.cluster_model.specs.State.{is_open_unit};
 ghost use Rattle.cluster_model.specs.Topologies.{is_complete};
 ghost use Rattle.cluster_model.specs.Units.{read_by};
 ghost use Rattle.suspect_retry.specs.Rounds.{closed_at};
-ghost use Rattle.cluster_calls.specs.Calling.{AreNumbered, all_complete_in, any_open, call_in, caught_up, incomplete_from, newest_in, no_calls, open_in, round_units, unit_in};
+ghost use Rattle.cluster_calls.specs.Calling.{AreNumbered, IsRest, NoneWaits, all_complete_in, any_open, call_in, caught_up, incomplete_from, is_waiting, newest_in, no_calls, open_in, round_units, unit_in};
 
 mod booking;
 mod losses;
@@ -24,13 +25,15 @@ use local_publisher::UnitState;
 use std::alloc::Global;
 use std::marker::Model;
 
-/// The calls of a cluster and their units. A unit's number is its place, counted from 1.
+/// The calls of a cluster and their units. A unit's number is its place, counted from 1. Of the
+/// first `past` units each is closed, or its call is answered, and stays so.
 #[derive(Drop)]
 pub struct Calls {
     segments: u16,
     units: Vec<Unit>,
     table: Table,
     read: u64,
+    past: usize,
 }
 
 impl Model for Calls {
@@ -63,6 +66,7 @@ impl Calls {
             units: Vec::new(alloc),
             table: Table::new(alloc),
             read: 0,
+            past: 0,
         }
     }
 
@@ -119,6 +123,27 @@ impl Calls {
                 numbered_on(self.units.as_slice(), start, count)
             }
         }
+    }
+
+    /// The units of the call's last round, by ascending segment, without some of the first ones.
+    /// Where the call isn't answered, none of those is open.
+    pub fn open_round(&self, number: CallId) -> &[Unit]
+        ensures { is_unanswered (call_in self.now number) ≡ true → filter is_open_unit result.now ≡ open_in self.now number }
+    {
+        let round = self.last_round(number);
+        let Some(first) = round.first() else {
+            return round;
+        };
+        let before = self.past.saturating_sub(place_of(first.work().id));
+        &round[before.min(round.len())..]
+    }
+
+    /// The units in the order of their numbers, without some of the first ones: each of those is
+    /// closed, or its call is answered.
+    pub fn waiting(&self) -> &[Unit]
+        ensures { IsRest self.now result.now }
+    {
+        &self.units.as_slice()[self.past..]
     }
 
     /// Whether a unit of the call is open.
@@ -193,6 +218,42 @@ impl Calls {
         ensures { result ≡ read_by self.now.units }
     {
         self.read
+    }
+
+    /// The units that are closed, or whose calls are answered, are passed over, as far as no other
+    /// one stands before them.
+    fn move_on(&mut self)
+        ensures { self.new ≡ self.old }
+    {
+        self.past = self.first_waiting();
+    }
+
+    /// The place of the first unit that is open and whose call isn't answered; where there is none,
+    /// how many units there are.
+    fn first_waiting(&self) -> usize
+        ensures within { result ≤ length self.now.units }
+        ensures none { NoneWaits self.now result }
+    {
+        let units = self.units.as_slice();
+        for place in self.past..units.len() {
+            if self.is_waiting(&units[place]) {
+                return place;
+            }
+        }
+        units.len()
+    }
+
+    /// Whether the unit is open, and its call isn't answered.
+    fn is_waiting(&self, unit: &Unit) -> bool
+        ensures { result ≡ is_waiting self.now unit.now }
+    {
+        if !unit.is_open() {
+            return false;
+        }
+        match self.call(unit.call()) {
+            None => false,
+            Some(call) => call.is_unanswered(),
+        }
     }
 }
 

@@ -12,6 +12,7 @@ pub mod UnitPlaces
 pub mod UnitReads
 pub mod UnitRows
 pub mod OpenUnits
+pub mod RestUnits
 pub mod StoreViews
 pub mod Choices
 pub mod Clocks

@@ -1,6 +1,6 @@
 -- The open units of a call, and which units are found by their own numbers.
-use Rattle.std.proofs.Common.{◌≡◌, ℕ, ◌<◌, Bool, true, false, cond, ◌&&◌, List, [], ◌∷◌, filter, length, get_or, Some, refl, sym, ap, subst, ◌∙◌}
-use Rattle.std.proofs.lemmas.List.Elements.{All-append, All-cons, All-filter, All-head, All-nil, All-tail}
+use Rattle.std.proofs.Common.{◌≡◌, ℕ, ◌<◌, Bool, true, false, cond, ◌&&◌, List, [], ◌∷◌, drop, filter, length, get_or, Some, refl, sym, ap, subst, ◌∙◌}
+use Rattle.std.proofs.lemmas.List.Elements.{All-append, All-cons, All-drop, All-filter, All-head, All-nil, All-tail}
 use Rattle.std.proofs.lemmas.Option.{slice_get-get_or}
 use Rattle.std.specs.List.{All, flat_map, range_with_len}
 use Rattle.cluster_model.specs.Commands.{open_units}
@@ -18,10 +18,10 @@ IsFound units u = unit_in units u.work.id ≡ Some u
 pub numbered_found : (units : List Unit) → AreNumbered units → All (IsFound units) units
 numbered_found units numbers = λ k d within. found_by_number units k (get_or units k d) numbers (slice_get-get_or units k d within)
 
--- and so is one that stands in them at a place
-pub unit_found : (units : List Unit) → AreNumbered units → (xs : List Unit) → xs ≡ units → (i : ℕ) (u : Unit) → i < length xs → u ≡ get_or xs i u → IsFound units u
-unit_found units numbers xs are i u within at =
-    subst (IsFound units) (sym at) (subst (λ (us : List Unit). All (IsFound units) us) (sym are) (numbered_found units numbers) i u within)
+-- and so is one that stands in them at a place, where some of the first ones are left out
+pub unit_found : (units : List Unit) → AreNumbered units → (n : ℕ) (xs : List Unit) → xs ≡ drop n units → (i : ℕ) (u : Unit) → i < length xs → u ≡ get_or xs i u → IsFound units u
+unit_found units numbers n xs are i u within at =
+    subst (IsFound units) (sym at) (subst (λ (us : List Unit). All (IsFound units) us) (sym are) (All-drop (IsFound units) n units (numbered_found units numbers)) i u within)
 
 -- what holds of each element of several lists
 all_flat : {A : Type 0} (P : Unit → Type 0) (f : A → List Unit) (keys : List A) → ((key : A) → All P (f key)) → All P (flat_map f keys)

@@ -24,6 +24,7 @@ impl Calls {
     {
         let made = self.departures(alloc, node)?;
         self.lose_each(node, made);
+        self.move_on();
         Ok(())
     }
 
@@ -42,6 +43,7 @@ impl Calls {
     {
         let made = self.ceasings(alloc, node, segments, id)?;
         self.cease_each(node, segments, id, made);
+        self.move_on();
         Ok(())
     }
 

@@ -28,6 +28,7 @@ impl Calls {
         unit.begin(runs, at);
         if !runs {
             self.table.close(call, segment, None);
+            self.move_on();
         }
     }
 
@@ -133,5 +134,6 @@ impl Calls {
         let (call, segment) = (unit.call(), unit.segment());
         unit.end();
         self.table.end(call, segment, made);
+        self.move_on();
     }
 }

@@ -69,6 +69,7 @@ impl Calls {
         ensures { self.new ≡ changes_call number (λ call. record call { outcome = Some outcome }) self.old }
     {
         self.table.answer(number, outcome);
+        self.move_on();
     }
 }
 

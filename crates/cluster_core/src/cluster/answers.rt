@@ -110,7 +110,6 @@ impl Core {
         requires { call_of self.now number ≡ Some call.now }
         ensures { result ≡ given_up self.now number call.now (first_of (incomplete self.now number)) }
     {
-        let suspect = self.first_incomplete(number)?;
         if !call.request().guarantee.asks_again() {
             return None;
         }
@@ -120,6 +119,7 @@ impl Core {
         if self.has_open(number) {
             return None;
         }
+        let suspect = self.first_incomplete(number)?;
         Some(Outcome::Again {
             rounds: call.rounds(),
             suspect,

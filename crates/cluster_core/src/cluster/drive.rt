@@ -1,8 +1,8 @@
 //! What brings a call nearer to its answer.
 
-ghost use Rattle.std.specs.Prelude.{◌≡◌, Some, IfOk};
-ghost use Rattle.cluster_model.specs.Commands.{drive_event, first_some, open_units, unit_event};
-ghost use Rattle.cluster_model.specs.State.{unit_of};
+ghost use Rattle.std.specs.Prelude.{◌≡◌, true, Some, IfOk};
+ghost use Rattle.cluster_model.specs.Commands.{drive_event, first_some, is_unanswered, open_units, unit_event};
+ghost use Rattle.cluster_model.specs.State.{call_of, unit_of};
 
 use crate::cluster::Core;
 use cluster_calls::Unit;
@@ -36,12 +36,13 @@ impl Core {
         self.store.advance_event(alloc)
     }
 
-    /// An event of the first open unit of the call, by ascending segment, that has one. The only
-    /// failure is that memory runs out.
+    /// An event of the first open unit of the call, which isn't answered, by ascending segment, that
+    /// has one. The only failure is that memory runs out.
     fn open_event(&self, alloc: Global, number: CallId) -> Result<Option<Event>, NoMemory>
+        requires { is_unanswered (call_of self.now number) ≡ true }
         ensures { IfOk result (λ event. event ≡ first_some (unit_event self.now) (open_units self.now number)) }
     {
-        let units = self.calls.last_round(number);
+        let units = self.calls.open_round(number);
         for unit in units {
             if !unit.is_open() {
                 continue;

@@ -30,7 +30,7 @@ impl Core {
     pub fn ready(&self, node: NodeId) -> Option<UnitId>
         ensures { result ≡ ready_at self.now node }
     {
-        let units = self.calls.units();
+        let units = self.calls.waiting();
         for unit in units {
             if self.is_ready(node, unit) {
                 return Some(unit.work().id);

@@ -34,7 +34,7 @@ impl Core {
     fn first_served(&self, alloc: Global, node: NodeId) -> Result<Option<Event>, NoMemory>
         ensures { IfOk result (λ event. event ≡ first_some (served_event self.now) (units_at self.now node)) }
     {
-        let units = self.calls.units();
+        let units = self.calls.waiting();
         for unit in units {
             if !unit.is_open() {
                 continue;

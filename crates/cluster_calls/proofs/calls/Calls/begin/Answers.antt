@@ -12,6 +12,7 @@ use Rattle.cluster_calls.specs.Rows.{calls_in, changes_row, may_close, with_row_
 use Rattle.cluster_calls.proofs.CallsLaws.{changed_kept, changed_seen, numbers, read_unit, asked_open, may_close_it}
 use Rattle.cluster_calls.proofs.ListLaws.{within_get}
 use Rattle.cluster_calls.proofs.PartLaws.{booking_none, pieced_closed, pieced_open}
+use Rattle.cluster_calls.proofs.PastLaws.{past_row, past_set}
 use Rattle.cluster_calls.proofs.RightLaws.{there, after_closed, after_same}
 use Rattle.cluster_calls.proofs.BothLaws.{and_left}
 use Rattle.cluster_calls.proofs.RowTables.{calls_in-same}
@@ -76,6 +77,8 @@ invariant_of-self c =
     (pieced_closed c.self.inside.segments units c.self.inside.table c.place_of-place.result h.unit after None (with_row_without_open h.unit.work.segment None) c.self.invariant.pieced at
     (record { id = refl; call = refl; segment = refl }) open_ (λ e. open_) (λ e. c.self.invariant.pieced.unread c.place_of-place.result h.unit at (ap has_begun state)) (λ row. refl) (λ row. refl)
     (λ row g. booking_none units after row.call (ap (λ (b : Bool). is_booked row.call (record h.unit { work = begun h.unit.work b c.args.at })) c.if-not-runs.true)))
+    (past_set units (changes_row h.unit.work.call (with_row_without_open h.unit.work.segment None) c.self.inside.table) c.self.inside.past c.place_of-place.result h.unit after at refl (λ e. open_)
+    (past_row units c.self.inside.table c.self.inside.past h.unit.work.call (with_row_without_open h.unit.work.segment None) (λ row over. over) c.self.invariant.past))
 
 pub invariant_of-self-else-not-runs : goal.invariant_of-self-else-not-runs
 invariant_of-self-else-not-runs c =
@@ -99,6 +102,7 @@ invariant_of-self-else-not-runs c =
     landed (ap (λ b. is_open (stage b)) c.if-not-runs.false ∙ sym open_) (ap (λ b. is_ended (stage b)) c.if-not-runs.false ∙ sym (ap is_ended state)))
     (pieced_open c.self.inside.segments units c.self.inside.table c.place_of-place.result h.unit after c.self.invariant.pieced at
     (record { id = refl; call = refl; segment = refl }) open_ (ap (λ b. is_open (stage b)) c.if-not-runs.false) (λ e. c.self.invariant.pieced.unread c.place_of-place.result h.unit at (ap has_begun state)))
+    (past_set units c.self.inside.table c.self.inside.past c.place_of-place.result h.unit after at refl (λ e. open_) c.self.invariant.past)
 
 pub returns-then-not-runs : goal.returns-then-not-runs
 returns-then-not-runs c =
@@ -107,7 +111,8 @@ returns-then-not-runs c =
     let h = there units c.args.unit (may_begin c.args.at) (numbers c.self.inside c.self.invariant) may in
     let at : slice_get units c.place_of-place.result ≡ Some h.unit = ap (slice_get units) c.place_of-place.ensures ∙ h.at in
     let is = read_unit units c.place_of-place.result h.unit c.index_mut-unit.result.now at c.index_mut-unit.ensures.value in
-    changed_seen c.self.inside c.self.invariant c.args.unit c.place_of-place.result h.unit c.begin.new.self c.close.new.self (λ u. record u { work = begun u.work c.args.runs c.args.at })
+    c.move_on.ensures
+    ∙ changed_seen c.self.inside c.self.invariant c.args.unit c.place_of-place.result h.unit c.begin.new.self c.close.new.self (λ u. record u { work = begun u.work c.args.runs c.args.at })
     c.place_of-place.ensures h.positive h.at (c.begin.ensures ∙ ap (λ (u : Unit). record u { work = begun u.work c.args.runs c.args.at }) is)
     (ap calls_in c.close.ensures ∙ calls_in-same c.self.inside.table c.call-call.result (with_row_without_open c.segment-segment.result None) (λ row. refl))
     ∙ ap (changes_unit c.args.unit (λ u. record u { work = begun u.work c.args.runs c.args.at })) c.self.view_is

@@ -10,6 +10,7 @@ use Rattle.cluster_calls.specs.Rows.{calls_in, changes_row, may_end_one, with_ro
 use Rattle.cluster_calls.proofs.CallsLaws.{changed_kept, changed_seen, nothing_flies, numbers, read_unit, may_end_is, may_end_it}
 use Rattle.cluster_calls.proofs.ListLaws.{within_get}
 use Rattle.cluster_calls.proofs.PartLaws.{booking_row, pieced_closed}
+use Rattle.cluster_calls.proofs.PastLaws.{past_row, past_set}
 use Rattle.cluster_calls.proofs.RightLaws.{there, after_ended}
 use Rattle.cluster_calls.proofs.RowTables.{calls_in-same}
 use Rattle.cluster_calls.proofs.calls.Calls.end_booked.Goals as goal
@@ -83,6 +84,8 @@ invariant_of-self c =
     c.requires.made h.unit (sym (ap (λ (x : Calling). unit_in x.units c.args.unit) c.self.view_is) ∙ h.found)
     ∙ sym (ap (λ (x : Calling). booking_in x after) c.self.view_is)
     ∙ booking_row c.self.inside.segments units c.self.inside.table after row g))
+    (past_set units (changes_row h.unit.work.call (with_row_end h.unit.work.segment c.args.made) c.self.inside.table) c.self.inside.past c.place_of-place.result h.unit after at refl (λ e. open_)
+    (past_row units c.self.inside.table c.self.inside.past h.unit.work.call (with_row_end h.unit.work.segment c.args.made) (λ row over. over) c.self.invariant.past))
 
 pub returns : goal.returns
 returns c =
@@ -91,7 +94,8 @@ returns c =
     let h = there units c.args.unit may_end (numbers c.self.inside c.self.invariant) may in
     let at : slice_get units c.place_of-place.result ≡ Some h.unit = ap (slice_get units) c.place_of-place.ensures ∙ h.at in
     let is = read_unit units c.place_of-place.result h.unit c.index_mut-unit.result.now at c.index_mut-unit.ensures.value in
-    changed_seen c.self.inside c.self.invariant c.args.unit c.place_of-place.result h.unit c.end.new.self c.end-2.new.self (λ u. record u { work = ended u.work })
+    c.move_on.ensures
+    ∙ changed_seen c.self.inside c.self.invariant c.args.unit c.place_of-place.result h.unit c.end.new.self c.end-2.new.self (λ u. record u { work = ended u.work })
     c.place_of-place.ensures h.positive h.at (c.end.ensures ∙ ap (λ (u : Unit). record u { work = ended u.work }) is)
     (ap calls_in c.end-2.ensures ∙ calls_in-same c.self.inside.table c.call-call.result (with_row_end c.segment-segment.result c.args.made) (λ row. refl))
     ∙ ap (changes_unit c.args.unit (λ u. record u { work = ended u.work })) c.self.view_is

@@ -10,6 +10,7 @@ use Rattle.cluster_calls.specs.Tallied.{nothing_tallied}
 use Rattle.cluster_calls.specs.declared.row.Row.{Row}
 use Rattle.cluster_calls.proofs.CallsLaws.{rows_kept}
 use Rattle.cluster_calls.proofs.PartRounds.{pieced_invoke}
+use Rattle.cluster_calls.proofs.PastLaws.{past_invoke}
 use Rattle.cluster_calls.proofs.QueryLaws.{none_mapped}
 use Rattle.cluster_calls.proofs.RoundLaws.{after_invoke}
 use Rattle.cluster_calls.proofs.RowTables.{calls_in-insert, get-calls_in}
@@ -27,7 +28,8 @@ invariant_of-self-2 c =
     subst (λ (t : Rows). IsCalls (record c.self.inside { table = t })) (sym table)
     (rows_kept c.self.inside c.self.invariant (map_of.insert rows n made)
     (after_invoke c.self.inside.segments c.self.inside.units.items rows n c.args.originator c.args.request made.parts c.self.invariant.right absent)
-    (pieced_invoke c.self.inside.segments c.self.inside.units.items rows n c.args.originator c.args.request made.tally c.self.invariant.right c.self.invariant.pieced absent))
+    (pieced_invoke c.self.inside.segments c.self.inside.units.items rows n c.args.originator c.args.request made.tally c.self.invariant.right c.self.invariant.pieced absent)
+    (past_invoke c.self.inside.segments c.self.inside.units.items rows c.self.inside.past n made c.self.invariant.right absent c.self.invariant.past))
 
 pub returns-clause-ok : goal.returns-clause-ok
 returns-clause-ok c =

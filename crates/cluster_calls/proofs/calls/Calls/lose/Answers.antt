@@ -7,6 +7,7 @@ use Rattle.cluster_calls.specs.Parts.{booking_in}
 use Rattle.cluster_calls.specs.Rows.{calls_in, changes_row, may_close, with_row_without_open}
 use Rattle.cluster_calls.proofs.CallsLaws.{changed_kept, one_at, open_not_ended, read_unit, seen_alike, may_close_it}
 use Rattle.cluster_calls.proofs.PartLaws.{booking_row, pieced_closed}
+use Rattle.cluster_calls.proofs.PastLaws.{past_row, past_set}
 use Rattle.cluster_calls.proofs.RightLaws.{after_closed}
 use Rattle.cluster_calls.proofs.RowTables.{calls_in-same}
 use Rattle.cluster_calls.proofs.calls.Calls.lose.Goals as goal
@@ -41,6 +42,8 @@ invariant_of-self c =
     c.requires.part h.0 (subst (λ (x : Calling). slice_get x.units c.args.place ≡ Some h.0) c.self.view_is h.1)
     ∙ sym (ap (λ (x : Calling). booking_in x (with_loss c.args.at h.0)) c.self.view_is)
     ∙ booking_row c.self.inside.segments units c.self.inside.table (with_loss c.args.at h.0) row g))
+    (past_set units (changes_row h.0.work.call (with_row_without_open h.0.work.segment c.args.part) c.self.inside.table) c.self.inside.past c.args.place h.0 (with_loss c.args.at h.0) h.1 refl (λ e. h.2)
+    (past_row units c.self.inside.table c.self.inside.past h.0.work.call (with_row_without_open h.0.work.segment c.args.part) (λ row over. over) c.self.invariant.past))
 
 pub returns : goal.returns
 returns c = λ w g.

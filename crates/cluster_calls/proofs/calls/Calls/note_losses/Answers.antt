@@ -13,6 +13,7 @@ use Rattle.cluster_calls.specs.Rows.{Rows, calls_in, each_row, notes}
 use Rattle.cluster_calls.specs.declared.row.Row.{Row}
 use Rattle.cluster_calls.proofs.CallsLaws.{rows_kept}
 use Rattle.cluster_calls.proofs.PartLaws.{pieced_rows, same_request}
+use Rattle.cluster_calls.proofs.PastLaws.{past_rows}
 use Rattle.cluster_calls.proofs.RightLaws.{mapped_some, right_rows, row_alike, some_mapped}
 use Rattle.cluster_calls.proofs.RowTables.{get-calls_in, get-each_call, get-each_row}
 use Rattle.cluster_calls.proofs.NoteLaws.{noted_alike}
@@ -33,7 +34,10 @@ invariant_of-self c =
     (pieced_rows c.self.inside.segments c.self.inside.units.items rows (each_row (notes lost) rows) c.self.invariant.pieced (λ n row at.
     let was = mapped_some (notes lost) (map_of.get rows n) row (sym (get-each_row (notes lost) rows n) ∙ at) in
     subst (λ (r : Row). HasParts c.self.inside.segments c.self.inside.units.items n r.call r.parts) (sym was.2)
-    (same_request c.self.inside.segments c.self.inside.units.items n was.0.call (notes lost was.0).call refl refl was.0.parts (c.self.invariant.pieced.parts n was.0 was.1)))))
+    (same_request c.self.inside.segments c.self.inside.units.items n was.0.call (notes lost was.0).call refl refl was.0.parts (c.self.invariant.pieced.parts n was.0 was.1))))
+    (past_rows c.self.inside.units.items rows (each_row (notes lost) rows) c.self.inside.past (λ n row at.
+    let was = mapped_some (notes lost) (map_of.get rows n) row (sym (get-each_row (notes lost) rows n) ∙ at) in
+    (was.0, was.1, λ over. ap (λ (r : Row). is_some r.call.outcome) was.2 ∙ over)) c.self.invariant.past))
 
 pub returns : goal.returns
 returns c = λ segments alike.

@@ -8,13 +8,14 @@ use Rattle.cluster_model.specs.Calls.{granted}
 use Rattle.cluster_model.specs.State.{Call, Unit}
 use Rattle.cluster_model.specs.Units.{read_by}
 use Rattle.cluster_calls.specs.Calling.{Calling, call_in, is_one, round_of, unit_made, with_call, with_round}
-use Rattle.cluster_calls.specs.Insides.{ArePieced, AreRight}
+use Rattle.cluster_calls.specs.Insides.{ArePast, ArePieced, AreRight}
 use Rattle.cluster_calls.specs.Rows.{Rows, calls_in, changes_row, with_row_asks}
 use Rattle.cluster_calls.specs.Tallied.{AreAsked}
 use Rattle.cluster_calls.specs.declared.row.Row.{Row}
 use Rattle.cluster_calls.proofs.CallsLaws.{seen_alike}
 use Rattle.cluster_calls.proofs.ListLaws.{length-filter}
 use Rattle.cluster_calls.proofs.PartRounds.{pieced_asks}
+use Rattle.cluster_calls.proofs.PastLaws.{past_append, past_row}
 use Rattle.cluster_calls.proofs.QueryLaws.{one_is_there, none_counts, read_by-asked}
 use Rattle.cluster_calls.proofs.RoundLaws.{AreNext, after_asks, are_asked}
 use Rattle.cluster_calls.proofs.RowTables.{calls_in-changed, get-calls_in, one_there}
@@ -65,6 +66,11 @@ invariant_of-self-2 c =
           omega (arith, ap length items, length-append units (map (unit_made c.args.number c.args.id) asks), length-map asks (unit_made c.args.number c.args.id), ap length c.as_slice-units.ensures.value);
       counted = c.self.invariant.counted ∙ sym (read_by-asked units c.args.number c.args.id asks) ∙ ap read_by (sym items);
       few = c.self.invariant.few;
+      past =
+          subst (λ (us : List Unit). ArePast us c.ask.new.self c.self.inside.past) (sym items)
+          (subst (λ (t : Rows). ArePast (units ++ map (unit_made c.args.number c.args.id) asks) t c.self.inside.past) (sym table)
+          (past_row (units ++ map (unit_made c.args.number c.args.id) asks) c.self.inside.table c.self.inside.past c.args.number (with_row_asks (length units + 1) asks) (λ row over. over)
+          (past_append units (map (unit_made c.args.number c.args.id) asks) c.self.inside.table c.self.inside.past c.self.invariant.past)));
     }
 
 pub returns-clause-ok : goal.returns-clause-ok

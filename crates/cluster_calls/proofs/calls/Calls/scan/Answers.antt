@@ -11,6 +11,7 @@ use Rattle.cluster_calls.specs.Calling.{Calling, changes_unit, is_one, unit_in, 
 use Rattle.cluster_calls.proofs.CallsLaws.{changed_kept, changed_seen, nothing_flies, numbers, read_unit, may_read_is}
 use Rattle.cluster_calls.proofs.ListLaws.{within_get}
 use Rattle.cluster_calls.proofs.PartLaws.{began, pieced_open}
+use Rattle.cluster_calls.proofs.PastLaws.{past_set}
 use Rattle.cluster_calls.proofs.RightLaws.{there, after_same}
 use Rattle.cluster_calls.proofs.calls.Calls.scan.Goals as goal
 
@@ -49,6 +50,7 @@ invariant_of-self-2 c =
     (nothing_flies h.unit.flying state.landed) refl refl)
     (pieced_open c.self.inside.segments units c.self.inside.table c.place_of-place.result h.unit after c.self.invariant.pieced at (record { id = refl; call = refl; segment = refl })
     (ap is_open state.running) (ap is_open state.running) (began h.unit.work.state state.running))
+    (past_set units c.self.inside.table c.self.inside.past c.place_of-place.result h.unit after at refl (λ e. ap is_open state.running) c.self.invariant.past)
 
 pub returns-clause-ok : goal.returns-clause-ok
 returns-clause-ok c =

@@ -11,6 +11,7 @@ use Rattle.cluster_calls.specs.declared.row.Row.{Row}
 use Rattle.cluster_calls.proofs.CallsLaws.{changed_kept, numbers, read_unit, running_is, seen_alike}
 use Rattle.cluster_calls.proofs.ListLaws.{within_get}
 use Rattle.cluster_calls.proofs.PartLaws.{began, pieced_call, pieced_open, same_request}
+use Rattle.cluster_calls.proofs.PastLaws.{past_row, past_set}
 use Rattle.cluster_calls.proofs.RightLaws.{after_call, after_same, there, with_unit-there}
 use Rattle.cluster_calls.proofs.RowTables.{calls_in-changed, get-calls_in}
 use Rattle.cluster_calls.proofs.calls.Calls.take.Goals as goal
@@ -70,6 +71,8 @@ invariant_of-self-2 c =
     (pieced_call c.self.inside.segments units c.self.inside.table h.unit.work.call change c.self.invariant.pieced
     (λ row has. same_request c.self.inside.segments units h.unit.work.call row.call (change row).call refl refl row.parts has)) at
     (record { id = refl; call = refl; segment = refl }) (ap is_open runs) (ap is_open runs) (began h.unit.work.state runs))
+    (past_set units (changes_row h.unit.work.call change c.self.inside.table) c.self.inside.past c.place_of-place.result h.unit after at refl (λ e. ap is_open runs)
+    (past_row units c.self.inside.table c.self.inside.past h.unit.work.call change (λ row over. over) c.self.invariant.past))
 
 pub returns-clause-ok : goal.returns-clause-ok
 returns-clause-ok c =
