@@ -1,6 +1,7 @@
 #!/usr/bin/env bash
 # Times ./grid on runs of a whole cluster, each beside one of half its size: runs of the generator,
-# told in full and in brief; calls of 256 segments that make a million events; and a script of 4 MB.
+# told in full and in brief; calls of 256 segments that make a million events; a rebalance of 256
+# segments over nine nodes in chunks of one entry; and a script of 4 MB.
 # Prints the time and the peak memory of each run. The first run, which may build the program, isn't
 # timed.
 set -e
@@ -32,6 +33,14 @@ for calls in 648 1297; do
         for (i = 1; i <= calls; i++) print "call " i " 0 exact 1 1 count\nfinish " i
     }' >"$folder/script"
     timed "$calls calls of 256 segments" step
+done
+for puts in 8000 16000; do
+    awk -v puts="$puts" 'BEGIN {
+        print "script step\nnodes 8\nsegments 256\nowners 2\npartition plain\nvalues int\nchunk 1"
+        for (i = 0; i < puts; i++) print "put " i % 8 " k" i " " i
+        print "join 8\nsettle"
+    }' >"$folder/script"
+    timed "a rebalance of $puts keys" step
 done
 for puts in 104000 208000; do
     awk -v puts="$puts" 'BEGIN {

@@ -1,7 +1,8 @@
 -- The store at the start of a cluster.
-use Rattle.std.proofs.Common.{◌≡◌, ℕ, ◌+◌, true, false, nat_lt, sym, ap, subst, ◌∙◌, arith}
+use Rattle.std.proofs.Common.{◌≡◌, ℕ, ◌+◌, true, false, nat_lt, refl, sym, ap, subst, ◌∙◌, arith}
 use Rattle.std.proofs.lemmas.Bool.Decides.{nat_tests}
 use Rattle.std.proofs.lemmas.Option.{none-some}
+use Rattle.std.specs.FinMap as map_of
 use Rattle.std.specs.FinSet as set_of
 use Rattle.std.specs.List.{range_with_len}
 use Rattle.grid_event.specs.Configs.{is_config}
@@ -11,9 +12,11 @@ use Rattle.state_transfer.specs.Copying.{Stores, nothing_held, transfer_to}
 use Rattle.state_transfer.proofs.CellLaws.{transfer-none}
 use Rattle.topology_coord.specs.Coordination.{Coordination, first_coordination, lives}
 use Rattle.topology_coord.proofs.FirstNodes.{nodes_more}
-use Rattle.cluster_model.specs.State.{start}
+use Rattle.cluster_model.specs.State.{State, start}
 use Rattle.cluster_laws.proofs.Starts.{first_node, good_config, start_kept}
 use Rattle.cluster_store.specs.Insides.{IsReached, IsStore}
+use Rattle.cluster_store.specs.Known.{IsKnown}
+use Rattle.cluster_store.specs.declared.known.Known.{Known}
 use Rattle.cluster_store.proofs.Reached.{start_reached}
 
 -- the first nodes are there, and hold nothing
@@ -42,9 +45,9 @@ next_there n k stores later are is put =
     ∙ ap (λ nodes. record { nodes = nodes; copying = nothing_held }) (sym (nodes_more n))
 
 -- the fields at the start are those of a store
-pub first_store : (config : Config) (coord : Coordination) (stores : Stores) → is_config config ≡ true → coord ≡ first_coordination config.nodes config.segments config.owners → stores ≡ first_stores config.nodes
-    → IsStore (record { config = config; coord = coord; copies = stores })
-first_store config coord stores good is are = record {
+pub first_store : (config : Config) (coord : Coordination) (stores : Stores) (known : Known) → ((st : State) → st.coord ≡ coord → st.copying.transfers ≡ map_of.empty → IsKnown known st) → is_config config ≡ true → coord ≡ first_coordination config.nodes config.segments config.owners → stores ≡ first_stores config.nodes
+    → IsStore (record { config = config; coord = coord; copies = stores; known = known })
+first_store config coord stores known first good is are = record {
   limits = good;
   nodes = λ n.
       ap (λ (x : Stores). set_of.contains x.nodes n) are
@@ -52,4 +55,5 @@ first_store config coord stores good is are = record {
       ∙ sym ((start_kept config (good_config config good)).told.live n)
       ∙ ap (λ (c : Coordination). lives c n) (sym is);
   reached = subst (λ st. IsReached config st) (λ i. record (start config) { coord = sym is i; copying = (sym are i).copying }) (start_reached config);
+  known = first (record (start config) { coord = coord; copying = stores.copying }) refl (ap (λ (x : Stores). x.copying.transfers) are);
 }

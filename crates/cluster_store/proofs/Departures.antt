@@ -7,6 +7,7 @@ use Rattle.std.specs.FinSet as set_of
 use Rattle.std.specs.Ordering.{nat_cmp}
 use Rattle.grid_event.specs.declared.event.Event.TheVariants as events
 use Rattle.state_transfer.specs.Calls.{ProvidesNone}
+use Rattle.state_transfer.specs.Chunks.{flies}
 use Rattle.state_transfer.specs.Copying.{Copying, Stores, Transfer, Transfers, copy_at, has_ended, transfer_to}
 use Rattle.state_transfer.specs.Leaving.{cancels, drops, forgets, outlives, restarts}
 use Rattle.state_transfer.proofs.LeavingLaws.{transfer-departs, transfer-drops}
@@ -22,7 +23,12 @@ use Rattle.cluster_model.specs.Topologies.{can_depart, can_install, changed_call
 use Rattle.cluster_laws.proofs.Facts.{holders_old, receiver_written, turned}
 use Rattle.cluster_laws.proofs.ProviderSteps.{IsProvided}
 use Rattle.cluster_store.specs.Insides.{IsStore, state_of}
+use Rattle.cluster_store.specs.Known.{IsAhead, IsKnown, known_changed}
+use Rattle.cluster_store.specs.declared.known.Known.{Known}
+use Rattle.cluster_store.specs.declared.known.ahead.Ahead.{Ahead}
+use Rattle.cluster_store.specs.declared.known.ahead.Ahead.TheVariants.{Unknown}
 use Rattle.cluster_store.specs.declared.store.Store.TheInside.{Inside}
+use Rattle.cluster_store.proofs.KnownLaws.{departs_none, known_later}
 use Rattle.cluster_store.proofs.LeftCopies.{drops_within}
 use Rattle.cluster_store.proofs.Reached.{store_parts, store_providers}
 use Rattle.cluster_store.proofs.Rows.{Becomes, becomes}
@@ -96,16 +102,16 @@ pub no_provider_left : (before forgotten : Stores) (node : ℕ) (lost : ℕ → 
     → (r s : ℕ) (v : Transfer) → transfer_to forgotten.copying.transfers r s ≡ Some v → has_ended v ≡ false → (v.provider == node) ≡ false
 no_provider_left = left_provider
 
-pub depart_row : (fields : Inside) (st : State) (node : ℕ) (lost : ℕ → Bool) (coord : Coordination) (forgotten stores : Stores) → IsStore fields → state_of fields ≡ st → can_depart st node ≡ true
+pub depart_row : (fields : Inside) (st : State) (node : ℕ) (lost : ℕ → Bool) (coord : Coordination) (forgotten stores : Stores) (known : Known) → IsStore fields → state_of fields ≡ st → can_depart st node ≡ true
     → ((s : ℕ) → lost s ≡ loses fields.coord node s) → coord ≡ departs fields.coord node
     → forgotten ≡ record fields.copies { copying = forgets lost (restarts node (cancels node fields.copies.copying)) }
     → stores ≡ record { nodes = set_of.remove forgotten.nodes node; copying = drops node (λ _. true) forgotten.copying }
-    → Becomes (record fields { coord = coord; copies = stores }) (departed st node)
+    → known ≡ known_changed Unknown fields.known → Becomes (record fields { coord = coord; copies = stores; known = known }) (departed st node)
 unfolding departed
-depart_row fields st node lost coord forgotten stores h view may same is left are =
+depart_row fields st node lost coord forgotten stores known h view may same is left are so =
     let gone : stores ≡ record { nodes = set_of.remove fields.copies.nodes node; copying = drops node (λ _. true) (forgets lost (restarts node (cancels node fields.copies.copying))) } =
     are ∙ ap (λ (x : Stores). record { nodes = set_of.remove x.nodes node; copying = drops node (λ _. true) x.copying }) left in
-    becomes fields (record fields { coord = coord; copies = stores }) st (events.Depart node) h view may refl
+    becomes fields (record fields { coord = coord; copies = stores; known = known }) st (events.Depart node) h view may refl
     (λ n.
     ap (λ (x : Stores). set_of.contains x.nodes n) gone
     ∙ set_of.contains-remove nat_cmp_total fields.copies.nodes node n
@@ -117,6 +123,9 @@ depart_row fields st node lost coord forgotten stores h view may same is left ar
     ∙ ap (λ calls. record (state_of fields) { coord = departs fields.coord node; copying = drops node (λ _. true) (forgets (loses fields.coord node) (restarts node (cancels node fields.copies.copying))); calls = calls })
     (sym (no_calls (notes_losses [] (lost_segments fields.coord node))))
     ∙ ap (λ (x : State). departed x node) view)
+    (subst (λ k. IsKnown k (record (state_of fields) { coord = coord; copying = stores.copying })) (sym so)
+    (known_later fields.known (state_of fields) Unknown coord stores.copying tt
+    (λ r s none. ap (λ (x : Stores). flies (transfer_to x.copying.transfers r s)) gone ∙ departs_none node lost fields.copies.copying r s none) h.known))
 
 -- ---- installations
 
@@ -164,12 +173,12 @@ no_copies_past : (fields : Inside) → IsStore fields → IsTopology fields.coor
 no_copies_past fields h kept node s j past =
     ((store_parts fields h).1.empty s (ap (some_live fields.coord) (holders_past fields.coord.newest s kept past))).no_copy node j
 
-pub install_row : (fields : Inside) (st : State) (node id : ℕ) (t : Topology) (coord : Coordination) (stores : Stores) → IsStore fields → state_of fields ≡ st → can_install st node id ≡ true
+pub install_row : (fields : Inside) (st : State) (node id : ℕ) (t : Topology) (coord : Coordination) (stores : Stores) (known : Known) (ahead : Ahead) → IsStore fields → state_of fields ≡ st → can_install st node id ≡ true
     → coord ≡ installs fields.coord node → t ≡ fields.coord.newest → IsTopology t
     → stores ≡ record fields.copies { copying = drops node (λ s. nat_lt s (length t.current) && not (among node (write_owners t s))) fields.copies.copying }
-    → Becomes (record fields { coord = coord; copies = stores }) (installed st node id)
+    → known ≡ known_changed ahead fields.known → IsAhead ahead coord → Becomes (record fields { coord = coord; copies = stores; known = known }) (installed st node id)
 unfolding installed
-install_row fields st node id t coord stores h view may is newest kept are =
+install_row fields st node id t coord stores known ahead h view may is newest kept are so follows =
     let live : lives fields.coord node ≡ true = install_may fields st node id view may in
     let dropped : stores ≡ record fields.copies { copying = drops node (λ s. not (among node (write_owners fields.coord.newest s))) fields.copies.copying } =
     are
@@ -177,7 +186,7 @@ install_row fields st node id t coord stores h view may is newest kept are =
     ∙ ap (λ (c : Copying). record fields.copies { copying = c })
     (drops_within node (λ s. not (among node (write_owners fields.coord.newest s))) (length fields.coord.newest.current) fields.copies.copying
     (λ s j past. no_copies_past fields h (subst (λ x. IsTopology x) newest kept) node s j past)) in
-    becomes fields (record fields { coord = coord; copies = stores }) st (events.Install node id) h view may refl
+    becomes fields (record fields { coord = coord; copies = stores; known = known }) st (events.Install node id) h view may refl
     (λ n.
     ap (λ (x : Stores). set_of.contains x.nodes n) dropped
     ∙ h.nodes n
@@ -185,6 +194,13 @@ install_row fields st node id t coord stores h view may is newest kept are =
     ∙ sym (lives-installs fields.coord node n)
     ∙ ap (λ (x : Coordination). lives x n) (sym is))
     ((λ i. record (state_of fields) { coord = is i; copying = (dropped i).copying }) ∙ ap (λ (x : State). installed x node id) view)
+    (subst (λ k. IsKnown k (record (state_of fields) { coord = coord; copying = stores.copying })) (sym so)
+    (known_later fields.known (state_of fields) ahead coord stores.copying follows
+    (λ r s none.
+    ap (λ (x : Stores). flies (transfer_to x.copying.transfers r s)) dropped
+    ∙ ap (λ (ts : Transfers). flies (transfer_to ts r s)) (transfer-drops node (λ u. not (among node (write_owners fields.coord.newest u))) fields.copies.copying)
+    ∙ none)
+    h.known))
   where
     lived : (same live : Bool) → (same ≡ true → live ≡ true) → live ≡ (same || live)
     lived true live h = h refl

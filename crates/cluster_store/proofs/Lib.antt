@@ -4,6 +4,8 @@ pub mod LeftCopies
 pub mod Reached
 pub mod Beginnings
 pub mod SendingLaws
+pub mod KnownLaws
+pub mod Landings
 pub mod Rows
 pub mod Departures
 pub mod EventLaws

@@ -1,17 +1,14 @@
 -- Runs that lead to a state, and what they keep.
-use Rattle.std.proofs.Common.{◌≡◌, ℕ, Bool, true, false, ◌&&◌, List, [], ◌∷◌, ◌++◌, reverse, refl, sym, ap, subst, ◌∙◌}
-use Rattle.std.specs.FinSet as set_of
-use Rattle.grid_event.specs.Configs.{is_config}
+use Rattle.std.proofs.Common.{◌≡◌, Bool, true, false, ◌&&◌, List, [], ◌∷◌, ◌++◌, reverse, refl, ap, subst, ◌∙◌}
 use Rattle.grid_event.specs.declared.config.Config.{Config}
 use Rattle.grid_event.specs.declared.event.Event.{Event}
-use Rattle.topology_coord.specs.Coordination.{lives}
 use Rattle.cluster_model.specs.Kept.{IsKept, KeepsParts}
 use Rattle.cluster_model.specs.State.{State, start}
 use Rattle.cluster_model.specs.Step.{allowed, changed, runs, state}
 use Rattle.cluster_model.specs.Told.{Contents, contents_of}
 use Rattle.cluster_laws.proofs.ProviderSteps.{KeepsProviders, providers_kept}
 use Rattle.cluster_laws.proofs.Runs.{always_kept}
-use Rattle.cluster_store.specs.Insides.{IsReached, IsStore, state_of}
+use Rattle.cluster_store.specs.Insides.{IsReached, IsStore}
 use Rattle.cluster_store.specs.declared.store.Store.TheInside.{Inside}
 
 -- of two tests the second may be told from the first
@@ -38,17 +35,6 @@ reached_next config st event h may = record {
   events = h.events ++ event ∷ [];
   is_run = runs-push (start config) h.events event h.is_run (ap (λ (s : State). allowed s event) h.reaches ∙ may);
   reaches = state-push (start config) h.events event ∙ ap (λ (s : State). changed s event) h.reaches;
-}
-
--- what a store becomes by an event that may happen is a store
-pub store_next : (fields later : Inside) (event : Event) → IsStore fields → allowed (state_of fields) event ≡ true → later.config ≡ fields.config
-    → ((node : ℕ) → set_of.contains later.copies.nodes node ≡ lives later.coord node) → changed (state_of fields) event ≡ state_of later → IsStore later
-store_next fields later event h may config nodes is = record {
-  limits = ap is_config config ∙ h.limits;
-  nodes = nodes;
-  reached =
-      subst (λ s. IsReached later.config s) is
-      (subst (λ settings. IsReached settings (changed (state_of fields) event)) (sym config) (reached_next fields.config (state_of fields) event h.reached may));
 }
 
 -- the parts that each event keeps stand in a store

@@ -15,8 +15,8 @@ use Rattle.grid_base.specs.declared.stamped.Stamped.{Stamped}
 use Rattle.container_seg.specs.Lifespans.{outlasts}
 use Rattle.state_transfer.specs.Calls.{ProvidesNone}
 use Rattle.state_transfer.specs.Changes.{changes, ticks}
-use Rattle.state_transfer.specs.Chunks.{lands, sends}
-use Rattle.state_transfer.specs.Copying.{Copying, Stores}
+use Rattle.state_transfer.specs.Chunks.{flies, lands, sends}
+use Rattle.state_transfer.specs.Copying.{Copying, Stores, transfer_to}
 use Rattle.state_transfer.specs.Leaving.{closes}
 use Rattle.topology_coord.specs.Changes.{announces, joins, may_join}
 use Rattle.topology_coord.specs.Coordination.{Coordination, live_of, lives, topology_of}
@@ -35,7 +35,12 @@ use Rattle.cluster_model.specs.Writes.{can_change, can_erase, can_tick, can_writ
 use Rattle.cluster_laws.proofs.Facts.{turned}
 use Rattle.cluster_laws.proofs.ProviderSteps.{IsProvided}
 use Rattle.cluster_store.specs.Insides.{IsReached, IsStore, state_of}
+use Rattle.cluster_store.specs.Known.{IsAhead, IsKnown, IsPassed, known_announced, known_changed, known_landed, known_sent}
+use Rattle.cluster_store.specs.declared.known.Known.{Known}
+use Rattle.cluster_store.specs.declared.known.ahead.Ahead.{Ahead}
+use Rattle.cluster_store.specs.declared.known.place.Place.{Place}
 use Rattle.cluster_store.specs.declared.store.Store.TheInside.{Inside}
+use Rattle.cluster_store.proofs.KnownLaws.{known_announces, known_changes, known_lands, known_later, known_sends, known_ticks}
 use Rattle.cluster_store.proofs.Reached.{reached_next, store_parts, store_providers}
 
 -- the fields are those of a store, which is seen as this state
@@ -45,8 +50,8 @@ pub record Becomes (later : Inside) (after : State) : Type 0 where
 
 -- a store becomes what an event makes of it
 pub becomes : (fields later : Inside) (st : State) (event : Event) → IsStore fields → state_of fields ≡ st → allowed st event ≡ true → later.config ≡ fields.config
-    → ((node : ℕ) → set_of.contains later.copies.nodes node ≡ lives later.coord node) → state_of later ≡ changed st event → Becomes later (changed st event)
-becomes fields later st event h view may config nodes is =
+    → ((node : ℕ) → set_of.contains later.copies.nodes node ≡ lives later.coord node) → state_of later ≡ changed st event → IsKnown later.known (state_of later) → Becomes later (changed st event)
+becomes fields later st event h view may config nodes is known =
     let before : IsReached fields.config st = subst (λ s. IsReached fields.config s) view h.reached in
     let after : IsReached fields.config (state_of later) = subst (λ s. IsReached fields.config s) (sym is) (reached_next fields.config st event before may) in
     record {
@@ -54,17 +59,19 @@ becomes fields later st event h view may config nodes is =
         limits = ap is_config config ∙ h.limits;
         nodes = nodes;
         reached = subst (λ settings. IsReached settings (state_of later)) (sym config) after;
+        known = known;
       };
       seen = is;
     }
 
 -- an event that changes copies and transfers alone
-copies_become : (fields : Inside) (stores : Stores) (copying : Copying) (st : State) (event : Event) → IsStore fields → state_of fields ≡ st → allowed st event ≡ true
+copies_become : (fields : Inside) (stores : Stores) (copying : Copying) (known : Known) (st : State) (event : Event) → IsStore fields → state_of fields ≡ st → allowed st event ≡ true
     → stores ≡ record fields.copies { copying = copying } → record (state_of fields) { copying = copying } ≡ changed (state_of fields) event
-    → Becomes (record fields { copies = stores }) (changed st event)
-copies_become fields stores copying st event h view may are is =
-    becomes fields (record fields { copies = stores }) st event h view may refl (λ node. ap (λ (x : Stores). set_of.contains x.nodes node) are ∙ h.nodes node)
+    → IsKnown known (record (state_of fields) { copying = copying }) → Becomes (record fields { copies = stores; known = known }) (changed st event)
+copies_become fields stores copying known st event h view may are is so =
+    becomes fields (record fields { copies = stores; known = known }) st event h view may refl (λ node. ap (λ (x : Stores). set_of.contains x.nodes node) are ∙ h.nodes node)
     (ap (λ (x : Stores). record (state_of fields) { copying = x.copying }) are ∙ is ∙ ap (λ s. changed s event) view)
+    (subst (λ (x : Stores). IsKnown known (record (state_of fields) { copying = x.copying })) (sym are) so)
 
 -- ---- writes and erasures
 
@@ -81,10 +88,11 @@ pub write_row : (fields : Inside) (st : State) (w : WriteEvent) (s : ℕ) (store
 unfolding written
 write_row fields st w s stores h view may segment are =
     copies_become fields stores (changes (pruned (set_of.contains fields.copies.nodes) (write_owners (topology_of st.coord w.node) s)) s w.key (Some (record { value = w.value; until = w.until })) fields.copies.copying)
-    st (events.Write w) h view may are
+    fields.known st (events.Write w) h view may are
     (ap (λ owners. record (state_of fields) { copying = changes owners s w.key (Some (record { value = w.value; until = w.until })) fields.copies.copying })
     (live_there fields h (write_owners (topology_of st.coord w.node) s) ∙ ap (λ (x : State). live_of fields.coord (write_owners (topology_of x.coord w.node) s)) (sym view))
     ∙ changed_at (state_of fields) w.node s w.key (Some (record { value = w.value; until = w.until })) (segment_of (state_of fields) w.key) (ap (λ (x : State). segment_of x w.key) view ∙ segment))
+    (known_changes fields.known (state_of fields) (pruned (set_of.contains fields.copies.nodes) (write_owners (topology_of st.coord w.node) s)) s w.key (Some (record { value = w.value; until = w.until })) h.known)
 
 pub erase_row : (fields : Inside) (st : State) (e : EraseEvent) (s : ℕ) (stores : Stores) → IsStore fields → state_of fields ≡ st → can_erase st e ≡ true → segment_of st e.key ≡ Some s
     → stores ≡ record fields.copies { copying = changes (pruned (set_of.contains fields.copies.nodes) (write_owners (topology_of st.coord e.node) s)) s e.key None fields.copies.copying }
@@ -92,10 +100,11 @@ pub erase_row : (fields : Inside) (st : State) (e : EraseEvent) (s : ℕ) (store
 unfolding erased
 erase_row fields st e s stores h view may segment are =
     copies_become fields stores (changes (pruned (set_of.contains fields.copies.nodes) (write_owners (topology_of st.coord e.node) s)) s e.key None fields.copies.copying)
-    st (events.Erase e) h view may are
+    fields.known st (events.Erase e) h view may are
     (ap (λ owners. record (state_of fields) { copying = changes owners s e.key None fields.copies.copying })
     (live_there fields h (write_owners (topology_of st.coord e.node) s) ∙ ap (λ (x : State). live_of fields.coord (write_owners (topology_of x.coord e.node) s)) (sym view))
     ∙ changed_at (state_of fields) e.node s e.key None (segment_of (state_of fields) e.key) (ap (λ (x : State). segment_of x e.key) view ∙ segment))
+    (known_changes fields.known (state_of fields) (pruned (set_of.contains fields.copies.nodes) (write_owners (topology_of st.coord e.node) s)) s e.key None h.known)
 
 -- a key without a segment is changed nowhere
 pub written_nowhere : (st : State) (w : WriteEvent) → segment_of st w.key ≡ None → st ≡ written st w
@@ -129,20 +138,43 @@ pub tick_row : (fields : Inside) (st : State) (number clock : ℕ) (stores : Sto
     → stores ≡ record fields.copies { copying = ticks clock fields.copies.copying } → Becomes (record fields { copies = stores }) (ticked st number)
 unfolding ticked
 tick_row fields st number clock stores h view may is are =
-    copies_become fields stores (ticks clock fields.copies.copying) st (events.Tick number) h view may are
-    (ap (λ n. record (state_of fields) { copying = ticks n fields.copies.copying }) is)
+    copies_become fields stores (ticks clock fields.copies.copying) fields.known st (events.Tick number) h view may are
+    (ap (λ n. record (state_of fields) { copying = ticks n fields.copies.copying }) is) (known_ticks fields.known (state_of fields) clock h.known)
 
 -- ---- chunks
 
-pub land_row : (fields : Inside) (st : State) (r s : ℕ) (stores : Stores) → IsStore fields → state_of fields ≡ st → can_land st r s ≡ true
-    → stores ≡ record fields.copies { copying = lands r s fields.copies.copying } → Becomes (record fields { copies = stores }) (landed st r s)
+pub land_row : (fields : Inside) (st : State) (r s : ℕ) (stores : Stores) (known : Known) → IsStore fields → state_of fields ≡ st → can_land st r s ≡ true
+    → stores ≡ record fields.copies { copying = lands r s fields.copies.copying } → known ≡ known_landed r s fields.known → Becomes (record fields { copies = stores; known = known }) (landed st r s)
 unfolding landed
-land_row fields st r s stores h view may are = copies_become fields stores (lands r s fields.copies.copying) st (events.Land r s) h view may are refl
+land_row fields st r s stores known h view may are so =
+    copies_become fields stores (lands r s fields.copies.copying) known st (events.Land r s) h view may are refl
+    (subst (λ k. IsKnown k (record (state_of fields) { copying = lands r s fields.copies.copying })) (sym so) (known_lands fields.known (state_of fields) r s h.known))
 
-pub copy_row : (fields : Inside) (st : State) (e : CopyEvent) (stores : Stores) → IsStore fields → state_of fields ≡ st → can_copy st e ≡ true
-    → stores ≡ record fields.copies { copying = sends e.receiver e.segment e.provider e.batch fields.copies.copying } → Becomes (record fields { copies = stores }) (copied st e)
+pub copy_row : (fields : Inside) (st : State) (e : CopyEvent) (stores : Stores) (known : Known) → IsStore fields → state_of fields ≡ st → can_copy st e ≡ true
+    → stores ≡ record fields.copies { copying = sends e.receiver e.segment e.provider e.batch fields.copies.copying } → known ≡ known_sent e.receiver e.segment fields.known
+    → Becomes (record fields { copies = stores; known = known }) (copied st e)
 unfolding copied
-copy_row fields st e stores h view may are = copies_become fields stores (sends e.receiver e.segment e.provider e.batch fields.copies.copying) st (events.Copy e) h view may are refl
+copy_row fields st e stores known h view may are so =
+    copies_become fields stores (sends e.receiver e.segment e.provider e.batch fields.copies.copying) known st (events.Copy e) h view may are refl
+    (subst (λ k. IsKnown k (record (state_of fields) { copying = sends e.receiver e.segment e.provider e.batch fields.copies.copying })) (sym so)
+    (known_sends fields.known (state_of fields) e.receiver e.segment e.provider e.batch h.known))
+
+-- no chunk may be sent before a place, where that is so in the state
+pub passed_row : (fields : Inside) (st : State) (place : Place) → IsStore fields → state_of fields ≡ st → IsPassed st place.receiver place.segment
+    → Becomes (record fields { known = record fields.known { from = place } }) st
+passed_row fields st place h view passed = record {
+  store = record {
+    limits = h.limits;
+    nodes = h.nodes;
+    reached = h.reached;
+    known = record {
+      ahead = h.known.ahead;
+      flying = h.known.flying;
+      passed = subst (λ s. IsPassed s place.receiver place.segment) (sym view) passed;
+    };
+  };
+  seen = view;
+}
 
 -- ---- joins
 
@@ -165,12 +197,12 @@ join_provides fields node h may s r v there =
     let provided : IsProvided fields.coord v.provider s = store_providers fields h r s v there in
     false_from_ne_true (v.provider == node) (λ same. true≢false (sym provided.member ∙ ap (set_of.contains fields.coord.ever) (eqb-true v.provider node same) ∙ never_member fields.coord node may))
 
-pub join_row : (fields : Inside) (st : State) (node : ℕ) (coord : Coordination) (stores : Stores) → IsStore fields → state_of fields ≡ st → can_join st node ≡ true
+pub join_row : (fields : Inside) (st : State) (node : ℕ) (coord : Coordination) (stores : Stores) (known : Known) (ahead : Ahead) → IsStore fields → state_of fields ≡ st → can_join st node ≡ true
     → coord ≡ joins fields.coord node → stores ≡ record fields.copies { nodes = set_of.insert fields.copies.nodes node }
-    → Becomes (record fields { coord = coord; copies = stores }) (joined st node)
+    → known ≡ known_changed ahead fields.known → IsAhead ahead coord → Becomes (record fields { coord = coord; copies = stores; known = known }) (joined st node)
 unfolding joined
-join_row fields st node coord stores h view may is are =
-    becomes fields (record fields { coord = coord; copies = stores }) st (events.Join node) h view may refl
+join_row fields st node coord stores known ahead h view may is are so follows =
+    becomes fields (record fields { coord = coord; copies = stores; known = known }) st (events.Join node) h view may refl
     (λ n.
     ap (λ (x : Stores). set_of.contains x.nodes n) are
     ∙ set_of.contains-insert nat_cmp_total fields.copies.nodes node n
@@ -178,6 +210,8 @@ join_row fields st node coord stores h view may is are =
     ∙ sym (lives-joins fields.coord node n)
     ∙ ap (λ (x : Coordination). lives x n) (sym is))
     ((λ i. record (state_of fields) { coord = is i; copying = (are i).copying }) ∙ ap (λ (x : State). record x { coord = joins x.coord node }) view)
+    (subst (λ k. IsKnown k (record (state_of fields) { coord = coord; copying = stores.copying })) (sym so)
+    (known_later fields.known (state_of fields) ahead coord stores.copying follows (λ r s none. ap (λ (x : Stores). flies (transfer_to x.copying.transfers r s)) are ∙ none) h.known))
 
 -- ---- announcements
 
@@ -190,12 +224,15 @@ pub announce_next : (fields : Inside) (st : State) (t : Topology) → state_of f
 unfolding can_announce
 announce_next fields st t view may = ap (λ (x : State). next_topology x) view ∙ is_that_one t (next_topology st) may
 
-pub announce_row : (fields : Inside) (st : State) (t : Topology) (coord : Coordination) (stores : Stores) → IsStore fields → state_of fields ≡ st → can_announce st t ≡ true
+pub announce_row : (fields : Inside) (st : State) (t : Topology) (coord : Coordination) (stores : Stores) (known : Known) → IsStore fields → state_of fields ≡ st → can_announce st t ≡ true
     → coord ≡ announces fields.coord t → stores ≡ record fields.copies { copying = cond (same_phase t.phase ReadOld) fields.copies.copying (closes fields.copies.copying) }
-    → Becomes (record fields { coord = coord; copies = stores }) (announced st t)
+    → known ≡ known_announced (same_phase t.phase ReadOld) fields.known → Becomes (record fields { coord = coord; copies = stores; known = known }) (announced st t)
 unfolding announced announces
-announce_row fields st t coord stores h view may is are =
-    becomes fields (record fields { coord = coord; copies = stores }) st (events.Announce t) h view may refl
+announce_row fields st t coord stores known h view may is are so =
+    becomes fields (record fields { coord = coord; copies = stores; known = known }) st (events.Announce t) h view may refl
     (λ n. ap (λ (x : Stores). set_of.contains x.nodes n) are ∙ h.nodes n ∙ ap (λ (x : Coordination). lives x n) (sym is))
     ((λ i. record (state_of fields) { coord = is i; copying = (are i).copying })
     ∙ ap (λ (x : State). record x { coord = announces x.coord t; copying = cond (same_phase t.phase ReadOld) x.copying (closes x.copying) }) view)
+    (subst (λ k. IsKnown k (record (state_of fields) { coord = coord; copying = stores.copying })) (sym so)
+    (subst (λ (x : Stores). IsKnown (known_announced (same_phase t.phase ReadOld) fields.known) (record (state_of fields) { coord = coord; copying = x.copying })) (sym are)
+    (known_announces fields.known (state_of fields) (same_phase t.phase ReadOld) coord h.known)))

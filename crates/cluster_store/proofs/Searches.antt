@@ -1,7 +1,8 @@
 -- The first of a list that there is, and what all of a list have, from a place on.
-use Rattle.std.proofs.Common.{◌≡◌, ℕ, suc, ◌+◌, ◌<◌, ◌≤◌, Bool, true, false, cond, ◌&&◌, ◌||◌, List, [], ◌∷◌, ◌++◌, map, drop, length, get_or, Option, None, Some, is_some, refl, sym, ap, ◌∙◌, arith}
+use Rattle.std.proofs.Common.{◌≡◌, ℕ, suc, zero, ◌+◌, ◌<◌, ◌≤◌, ◌==◌, Bool, true, false, cond, ◌&&◌, ◌||◌, List, [], ◌∷◌, ◌++◌, map, drop, length, get_or, Option, None, Some, is_some, inl, inr, refl, sym, ap, ◌∙◌, arith}
 use Rattle.std.proofs.Math.Seq.{drop-cons}
 use Rattle.std.proofs.Math.ListN.{drop_of_length-le}
+use Rattle.std.proofs.lemmas.Bool.{cases_eq, cases_lt, ne_eqb}
 use Rattle.std.proofs.lemmas.List.FromFn.{get_or-range_with_len, length-range_with_len}
 use Rattle.std.specs.List.{find, flat_map, list_all, list_any, range_with_len}
 use Rattle.grid_event.specs.declared.event.Event.{Event}
@@ -79,6 +80,37 @@ module _ (f : ℕ → Option Event) (n : ℕ) where
 
   pub row_left : (i : ℕ) → n ≤ i → first_some f (drop i (range_with_len 0 n)) ≡ None
   row_left i past = none_left f (range_with_len 0 n) i (omega (arith, length-range_with_len 0 n))
+
+  -- where those before a place have none, it is that from the place on
+  pub row_from : (i : ℕ) → i ≤ n → ((k : ℕ) → k < i → f k ≡ None) → first_some f (range_with_len 0 n) ≡ first_some f (drop i (range_with_len 0 n))
+  row_from zero within none = refl
+  row_from (suc i) within none =
+      let next : i + 1 ≡ suc i = omega arith in
+      row_from i (omega (arith, within)) (λ k before. none k (omega (arith, before)))
+      ∙ row_none i (omega (arith, within)) (f i) refl (ap is_some (none i (omega arith)))
+      ∙ ap (λ j. first_some f (drop j (range_with_len 0 n))) next
+
+  -- so it is from a place past the end
+  pub row_start : (i : ℕ) → ((k : ℕ) → k < i → k < n → f k ≡ None) → first_some f (drop i (range_with_len 0 n)) ≡ first_some f (range_with_len 0 n)
+  row_start i none = elim (cases_lt i n) [
+    | inl within ↦ sym (row_from i (omega (arith, within)) (λ k before. none k before (omega (arith, before, within))))
+    | inr past ↦ row_left i (omega (arith, past)) ∙ sym (row_from n (omega arith) (λ k before. none k (omega (arith, before, past)) before) ∙ row_left n (omega arith))
+  ]
+
+  -- where none has one, there is none
+  pub row_without : ((k : ℕ) → k < n → f k ≡ None) → first_some f (range_with_len 0 n) ≡ None
+  row_without none = row_from n (omega arith) none ∙ row_left n (omega arith)
+
+  -- and where but one has none, it is that of the one
+  pub row_only : (i : ℕ) → i < n → ((k : ℕ) → (k == i) ≡ false → f k ≡ None) → first_some f (range_with_len 0 n) ≡ f i
+  row_only i within none = by_one (f i) refl
+    where
+      by_one : (o : Option Event) → o ≡ f i → first_some f (range_with_len 0 n) ≡ o
+      by_one (Some event) is = row_from i (omega (arith, within)) (λ k before. none k (ne_eqb k i (omega (arith, before)))) ∙ sym (row_here i within (Some event) is refl)
+      by_one None is = row_without (λ k before. elim (cases_eq k i) [
+        | inl same ↦ ap f same ∙ sym is
+        | inr differ ↦ none k (ne_eqb k i differ)
+      ])
 
 module _ (p : ℕ → Bool) (n : ℕ) where
   pub row_fails : (i : ℕ) → i < n → p i ≡ false → list_all p (drop i (range_with_len 0 n)) ≡ false

@@ -1,5 +1,5 @@
 -- What is known where a node sends, and what the event of a copy is.
-use Rattle.std.proofs.Common.{◌≡◌, ℕ, ◌==◌, ◌≤◌, Bool, true, false, ◌&&◌, if◌then◌else◌, Option, Some, None, is_some, nat_le, refl, sym, ap, subst, ◌∙◌}
+use Rattle.std.proofs.Common.{◌≡◌, ℕ, ◌==◌, ◌≤◌, Bool, true, false, not, ◌&&◌, if◌then◌else◌, Option, Some, None, is_some, nat_le, refl, sym, ap, subst, ◌∙◌}
 use Rattle.std.proofs.lemmas.Bool.{and_parts, eq-eqb, eqb-true, false_from_ne_true, leb-true, or_right, true≢false}
 use Rattle.std.specs.FinSet as set_of
 use Rattle.std.specs.Option.{IfSome, option_map}
@@ -11,11 +11,13 @@ use Rattle.grid_event.specs.declared.config.Config.{Config}
 use Rattle.grid_event.specs.declared.event.Event.TheVariants as events
 use Rattle.grid_event.specs.declared.store_events.CopyEvent.{CopyEvent}
 use Rattle.state_transfer.specs.Calls.{ProvidesNone, goes_on}
-use Rattle.state_transfer.specs.Chunks.{chunk_of, may_send}
+use Rattle.state_transfer.specs.Chunks.{chunk_of, may_send, sends}
 use Rattle.state_transfer.specs.Copying.{Stores, Transfer, has_ended, transfer_to}
-use Rattle.topology_coord.specs.Coordination.{all_installed}
+use Rattle.topology_coord.specs.Coordination.{all_installed, lives}
 use Rattle.topology_coord.specs.Following.{receives}
 use Rattle.topology_phase.specs.Owners.{among, owners_at}
+use Rattle.topology_phase.specs.Phases.{same_phase}
+use Rattle.topology_phase.specs.declared.phase.Phase.TheVariants.{ReadOld}
 use Rattle.cluster_model.specs.Commands.{copy_event, if_any_allowed}
 use Rattle.cluster_model.specs.Same.{same_chunk}
 use Rattle.cluster_model.specs.State.{State}
@@ -103,6 +105,30 @@ copy_event-sender st r s = by_provider (all_installed st.coord && (receives st.c
         ap (λ b. if b then Some (events.Copy (copy_with st r s q)) else None)
         (own_chunk st r s q ∙ (λ i. is_provided q (if may i then is i else None)))
 
+-- where there is no sender, there is none
+pub copy_event-none : (st : State) (r s : ℕ) → sender st r s ≡ None → copy_event st r s ≡ None
+copy_event-none st r s none = copy_event-sender st r s ∙ ap (option_map (λ q. events.Copy (copy_with st r s q))) none
+
+-- no chunk is sent but in the first phase of a rebalance, where all live nodes have the newest topology
+and_false : (b : Bool) → (b && false) ≡ false
+and_false true = refl
+and_false false = refl
+
+pub unphased_sends : (st : State) → same_phase st.coord.newest.phase ReadOld ≡ false → (r s : ℕ) → sender st r s ≡ None
+unfolding sender
+unphased_sends st off r s =
+    ap
+    (λ b.
+    if all_installed st.coord
+    && ((b && (lives st.coord r && (among r (owners_at st.coord.newest.pending s) && not (among r (owners_at st.coord.newest.current s))))) && may_send (transfer_of st r s))
+    then provider st r s
+    else None) off
+    ∙ ap (λ b. if b then provider st r s else None) (and_false (all_installed st.coord))
+
+pub uninstalled_sends : (st : State) → all_installed st.coord ≡ false → (r s : ℕ) → sender st r s ≡ None
+unfolding sender
+uninstalled_sends st off r s = ap (λ b. if b && (receives st.coord r s && may_send (transfer_of st r s)) then provider st r s else None) off
+
 -- ---- what the copies ask for
 
 -- both nodes are there and differ, a transfer that is there goes on, and neither node has another part in a transfer of the segment
@@ -171,6 +197,17 @@ pub sent_is : (sent : Option (Portion StampedEntry)) (next batch : Portion Stamp
     → IfSome sent (λ chunk. chunk ≡ next) → IfSome sent (λ chunk. stores ≡ after chunk) → next ≡ batch → stores ≡ after batch
 sent_is None next batch stores after there is are same = absurd (cc)
 sent_is (Some chunk) next batch stores after there is are same = are ∙ ap after (is ∙ same)
+
+-- so the copies are those behind the sending of the event's chunk
+pub copy_sends : (fields : Inside) (st : State) (e : CopyEvent) (stores : Stores) (sent : Option (Portion StampedEntry)) → IsStore fields → state_of fields ≡ st → can_copy st e ≡ true
+    → is_some sent ≡ may_send (transfer_to fields.copies.copying.transfers e.receiver e.segment)
+    → IfSome sent (λ chunk. chunk ≡ chunk_of fields.copies.copying e.receiver e.segment e.provider fields.config.chunk)
+    → IfSome sent (λ chunk. stores ≡ record fields.copies { copying = sends e.receiver e.segment e.provider chunk fields.copies.copying })
+    → stores ≡ record fields.copies { copying = sends e.receiver e.segment e.provider e.batch fields.copies.copying }
+copy_sends fields st e stores sent h view may there is are =
+    sent_is sent (chunk_of fields.copies.copying e.receiver e.segment e.provider fields.config.chunk) e.batch stores
+    (λ (chunk : Portion StampedEntry). record fields.copies { copying = sends e.receiver e.segment e.provider chunk fields.copies.copying })
+    (there ∙ (copy_ready fields st e h view may).may) is are (next_is fields st e view may)
 
 pub some_mapped : {A B : Type 0} (f : A → B) (o : Option A) → is_some (option_map f o) ≡ is_some o
 some_mapped f None = refl

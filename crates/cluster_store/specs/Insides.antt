@@ -8,6 +8,7 @@ use Rattle.grid_event.specs.declared.event.Event.{Event}
 use Rattle.topology_coord.specs.Coordination.{lives}
 use Rattle.cluster_model.specs.State.{State, start}
 use Rattle.cluster_model.specs.Step.{runs, state}
+use Rattle.cluster_store.specs.Known.{IsKnown}
 use Rattle.cluster_store.specs.declared.store.Store.TheInside.{Inside}
 
 -- the state that the fields make: no call was made
@@ -26,8 +27,10 @@ pub record IsReached (config : Config) (st : State) : Type 0 where
   pub is_run : runs (start config) events ≡ true
   pub reaches : state (start config) events ≡ st
 
--- the settings are in their limits, copies are those of the live nodes, and a run leads to the state
+-- the settings are in their limits, copies are those of the live nodes, a run leads to the state, and what is known
+-- of the state is so
 pub record IsStore (fields : Inside) : Type 0 where
   pub limits : is_config fields.config ≡ true
   pub nodes : (node : ℕ) → set_of.contains fields.copies.nodes node ≡ lives fields.coord node
   pub reached : IsReached fields.config (state_of fields)
+  pub known : IsKnown fields.known (state_of fields)

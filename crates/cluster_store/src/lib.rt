@@ -3,6 +3,7 @@
 //! command chooses.
 #![tactic(auto)]
 
+mod known;
 mod matches;
 mod owners;
 mod store;

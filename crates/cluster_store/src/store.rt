@@ -20,6 +20,7 @@ mod topologies;
 mod transfers;
 mod writes;
 
+use crate::known::Known;
 use crate::owners::readers;
 use grid_base::{Batch, Key, NoMemory, NodeId, NodeSet, SegmentId};
 use grid_event::Config;
@@ -36,6 +37,7 @@ pub struct Store {
     config: Config,
     coord: Coord,
     copies: Copies,
+    known: Known,
 }
 
 impl Model for Store {
@@ -68,10 +70,12 @@ impl Store {
     {
         let coord = Coord::new(alloc, config.nodes, config.segments, config.owners)?;
         let copies = first_copies(alloc, config.nodes)?;
+        let known = Known::first(alloc, &coord);
         Ok(Store {
             config: *config,
             coord,
             copies,
+            known,
         })
     }
 

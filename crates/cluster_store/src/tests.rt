@@ -152,7 +152,7 @@ fn take(alloc: Global, store: &mut Store, event: &Event) -> Result<Option<u8>, F
         Event::Install { node, id } => {
             let may = store.can_install(*node, *id);
             if may {
-                store.install(*node, *id);
+                store.install(alloc, *node, *id);
             }
             (may, b'I')
         }

@@ -94,7 +94,7 @@ impl Core {
     {
         let unread = unread(&self.store, node);
         self.calls.cease(alloc, node, &unread, id)?;
-        self.store.install(node, id);
+        self.store.install(alloc, node, id);
         Ok(())
     }
 

@@ -6,6 +6,7 @@ ghost use Rattle.topology_coord.specs.Coordination.{live_nodes};
 ghost use Rattle.cluster_model.specs.Commands.{advance_event, announce_event, cancel_event, copy_event, first_some, install_event, land_event};
 ghost use Rattle.cluster_model.specs.State.{segments_of};
 
+use crate::known::Flying;
 use crate::store::Store;
 use grid_base::{NoMemory, NodeId, SegmentId};
 use grid_event::{CopyEvent, Event};
@@ -75,6 +76,9 @@ impl Store {
     pub fn cancel_event(&self, alloc: Global) -> Result<Option<Event>, NoMemory>
         ensures { IfOk result (λ event. event ≡ cancel_event self.now) }
     {
+        if self.goes_on() {
+            return Ok(None);
+        }
         if !self.coord().newest().phase().is(Phase::ReadOld) {
             return Ok(None);
         }
@@ -113,6 +117,19 @@ impl Store {
     pub fn first_landing(&self, node: NodeId) -> Option<Event>
         ensures { result ≡ first_some (land_event self.now node) (segments_of self.now) }
     {
+        match self.known.flying {
+            Flying::Nothing => return None,
+            Flying::Only(receiver, segment) => {
+                if receiver != node {
+                    return None;
+                }
+                if segment.number() >= self.config.segments {
+                    return None;
+                }
+                return self.land_event(node, segment);
+            }
+            Flying::Any => {}
+        }
         for number in 0..self.config().segments {
             let event = self.land_event(node, SegmentId::new(number));
             if event.is_some() {
@@ -127,7 +144,8 @@ impl Store {
     pub fn first_copy(&self, alloc: Global, node: NodeId) -> Result<Option<Event>, NoMemory>
         ensures { IfOk result (λ event. event ≡ first_some (copy_event self.now node) (segments_of self.now)) }
     {
-        for number in 0..self.config().segments {
+        let start = self.first_sending(node);
+        for number in start..self.config().segments {
             let segment = SegmentId::new(number);
             if self.sender(node, segment).is_some() {
                 return self.copy_event(alloc, node, segment);

@@ -6,9 +6,11 @@ ghost use Rattle.state_transfer.specs.Copying.{transfer_to};
 ghost use Rattle.state_transfer.specs.Leaving.{drops};
 ghost use Rattle.topology_phase.specs.Owners.{among};
 ghost use Rattle.topology_phase.specs.Topologies.{IsTopology, write_owners};
+ghost use Rattle.cluster_model.specs.Commands.{cancel_event};
 ghost use Rattle.cluster_model.specs.Topologies.{all_copied, announced, can_announce, can_install, installed, next_topology};
 ghost use Rattle.cluster_store.specs.Receivers.{has_copies, is_copied};
 
+use crate::known::Ahead;
 use crate::owners::pending_owners;
 use crate::store::Store;
 use grid_base::{NoMemory, NodeId, SegmentId, TopologyId};
@@ -50,20 +52,24 @@ impl Store {
     {
         let keeps = topology.phase().is(Phase::ReadOld);
         self.coord.announce(topology);
+        self.known.announce(keeps);
         if keeps {
             return;
         }
         self.copies.close_all();
     }
 
-    /// The node installs the newest topology, by this number.
-    pub fn install(&mut self, node: NodeId, id: TopologyId)
+    /// The node installs the newest topology, by this number. Where memory runs out, less is known
+    /// of what follows.
+    pub fn install(&mut self, alloc: Global, node: NodeId, id: TopologyId)
         requires { can_install self.old node id ≡ true }
         ensures { self.new ≡ installed self.old node id }
     {
         let _ = id;
         let _ = self.coord.install(node);
         drop_unwritten(&mut self.copies, self.coord.newest(), node);
+        let ahead = Ahead::of(alloc, &self.coord);
+        self.known.change(ahead);
     }
 
     /// The next topology. None comes exactly where there is none. The only failure is that memory
@@ -71,7 +77,24 @@ impl Store {
     pub(crate) fn next_topology(&self, alloc: Global) -> Result<Option<Topology>, NoMemory>
         ensures { IfOk result (λ next. next ≡ next_topology self.now) }
     {
+        if self.ends() {
+            return Ok(None);
+        }
         self.coord.next_topology(alloc, self.all_copied())
+    }
+
+    /// Whether it is known that there is no next topology.
+    fn ends(&self) -> bool
+        ensures { result ≡ true → next_topology self.now ≡ None }
+    {
+        matches!(self.known.ahead, Ahead::NoTopology)
+    }
+
+    /// Whether it is known that the next topology doesn't give up a rebalance.
+    pub(crate) fn goes_on(&self) -> bool
+        ensures { result ≡ true → cancel_event self.now ≡ None }
+    {
+        matches!(self.known.ahead, Ahead::NoTopology | Ahead::NoCancellation)
     }
 
     /// Whether every receiver of a segment has ended its transfer.

@@ -1,15 +1,18 @@
 //! Chunks of transfers.
 
-ghost use Rattle.std.specs.Prelude.{◌≡◌, true, Some, IfOk, OnErr, OnOk};
+ghost use Rattle.std.specs.Prelude.{◌≡◌, ℕ, ◌<◌, ◌≤◌, false, true, None, Some, IfOk, OnErr, OnOk};
 ghost use Rattle.cluster_model.specs.Transfers.{can_copy, can_land, copied, landed, next_chunk_of, provider};
+ghost use Rattle.cluster_store.specs.Known.{IsPassed};
 ghost use Rattle.cluster_store.specs.Sending.{sender};
 
+use crate::known::Place;
 use crate::matches::same_chunk;
 use crate::owners::current_owners;
 use crate::store::Store;
 use grid_base::{Chunk, NoMemory, NodeId, SegmentId};
 use grid_event::CopyEvent;
 use std::alloc::Global;
+use topology_phase::Phase;
 
 impl Store {
     /// Whether the chunk may be sent. The only failure is that memory runs out.
@@ -46,6 +49,9 @@ impl Store {
         let _ = self
             .copies
             .copy_chunk(alloc, receiver, segment, copy.provider, most)?;
+        self.known.send(receiver, segment);
+        let from = self.place_up_to(receiver, segment);
+        self.known.from = from;
         Ok(())
     }
 
@@ -62,6 +68,7 @@ impl Store {
         ensures err { OnErr result (self.new ≡ self.old) }
     {
         let _ = self.copies.apply_chunk(alloc, receiver, segment)?;
+        self.known.land(receiver, segment);
         Ok(())
     }
 
@@ -81,6 +88,75 @@ impl Store {
             return None;
         }
         self.provider(receiver, segment)
+    }
+
+    /// Whether chunks may be sent: none where the newest topology isn't in the first phase of a
+    /// rebalance, or a live node lacks it.
+    fn may_send(&self) -> bool
+        ensures { result ≡ false → (r s : ℕ) → sender self.now r s ≡ None }
+    {
+        self.coord.newest().phase().is(Phase::ReadOld) && self.coord.all_installed()
+    }
+
+    /// A segment before which there is none of which a chunk may be sent to the receiver.
+    pub(crate) fn first_sending(&self, receiver: NodeId) -> u16
+        ensures { (s : ℕ) → s < result → s < self.now.config.segments → sender self.now receiver s ≡ None }
+    {
+        let from = self.known.from;
+        if receiver.number() < from.receiver.number() {
+            return self.config.segments;
+        }
+        if !self.may_send() {
+            return self.config.segments;
+        }
+        if receiver == from.receiver {
+            return from.segment.number();
+        }
+        0
+    }
+
+    /// The place from which on chunks may be sent, as far as it is not past the segment and the
+    /// receiver.
+    fn place_up_to(&self, receiver: NodeId, segment: SegmentId) -> Place
+        ensures { IsPassed self.now result.receiver result.segment }
+    {
+        let from = self.known.from;
+        if receiver.number() < from.receiver.number() {
+            return from;
+        }
+        let segments = self.config.segments;
+        let mut start = from.segment.number();
+        for number in from.receiver.number()..receiver.number() {
+            let node = NodeId::new(number);
+            let found = self.sending_from(node, start, segments);
+            if found < segments {
+                let segment = SegmentId::new(found);
+                return Place {
+                    receiver: node,
+                    segment,
+                };
+            }
+            start = 0;
+        }
+        let found = self.sending_from(receiver, start, segment.number());
+        let segment = SegmentId::new(found);
+        Place { receiver, segment }
+    }
+
+    /// The first segment from a number on of which a chunk may be sent to the receiver, as far as
+    /// it is below an end.
+    fn sending_from(&self, receiver: NodeId, start: u16, end: u16) -> u16
+        ensures { (s : ℕ) → start ≤ s → s < result → sender self.now receiver s ≡ None }
+    {
+        if end < start {
+            return start;
+        }
+        for number in start..end {
+            if self.sender(receiver, SegmentId::new(number)).is_some() {
+                return number;
+            }
+        }
+        end
     }
 
     /// The node that provides the segment to the receiver. None comes exactly where there is none.

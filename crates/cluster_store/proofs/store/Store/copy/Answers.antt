@@ -1,10 +1,8 @@
 -- The chunk that is sent is that of the event.
-use Rattle.std.proofs.Common.{◌≡◌, ◌∙◌}
-use Rattle.grid_base.specs.Portion.{Portion}
-use Rattle.grid_base.specs.declared.stamped_entry.StampedEntry.{StampedEntry}
-use Rattle.state_transfer.specs.Chunks.{chunk_of, sends}
-use Rattle.cluster_store.proofs.Rows.{copy_row}
-use Rattle.cluster_store.proofs.SendingLaws.{copy_ready, next_is, sent_is}
+use Rattle.std.proofs.Common.{refl}
+use Rattle.cluster_store.specs.Insides.{state_of}
+use Rattle.cluster_store.proofs.Rows.{copy_row, passed_row}
+use Rattle.cluster_store.proofs.SendingLaws.{copy_ready, copy_sends}
 use Rattle.cluster_store.proofs.store.Store.copy.Goals as goal
 
 pub copy_chunk-requires-clause-receiver : goal.copy_chunk-requires-clause-receiver
@@ -30,20 +28,23 @@ copy_chunk-requires-clause-no_receiver c = (copy_ready c.self.inside c.args.self
 
 pub invariant_of-self-2 : goal.invariant_of-self-2
 invariant_of-self-2 c =
-    let e = c.args.copy.now in
-    let sent : c.copy_chunk.new.self ≡ record c.self.inside.copies { copying = sends e.receiver e.segment e.provider e.batch c.self.inside.copies.copying } =
-    sent_is c.in_ok-copy_chunk.field-0 (chunk_of c.self.inside.copies.copying e.receiver e.segment e.provider c.self.inside.config.chunk) e.batch c.copy_chunk.new.self
-    (λ (chunk : Portion StampedEntry). record c.self.inside.copies { copying = sends e.receiver e.segment e.provider chunk c.self.inside.copies.copying })
-    (c.in_ok-copy_chunk.ensures.sent ∙ (copy_ready c.self.inside c.args.self.now c.args.copy.now c.self.invariant c.self.view_is c.requires).may) c.in_ok-copy_chunk.ensures.chunk c.in_ok-copy_chunk.ensures.ok
-    (next_is c.self.inside c.args.self.now e c.self.view_is c.requires) in
-    (copy_row c.self.inside c.args.self.now e c.copy_chunk.new.self c.self.invariant c.self.view_is c.requires sent).store
+    let sent =
+    copy_sends c.self.inside c.args.self.now c.args.copy.now c.copy_chunk.new.self c.in_ok-copy_chunk.field-0 c.self.invariant c.self.view_is c.requires c.in_ok-copy_chunk.ensures.sent
+    c.in_ok-copy_chunk.ensures.chunk c.in_ok-copy_chunk.ensures.ok in
+    (copy_row c.self.inside c.args.self.now c.args.copy.now c.copy_chunk.new.self c.send.new.self c.self.invariant c.self.view_is c.requires sent c.send.ensures).store
+
+pub invariant_of-self-3 : goal.invariant_of-self-3
+invariant_of-self-3 c =
+    let sent =
+    copy_sends c.self.inside c.args.self.now c.args.copy.now c.copy_chunk.new.self c.in_ok-copy_chunk.field-0 c.self.invariant c.self.view_is c.requires c.in_ok-copy_chunk.ensures.sent
+    c.in_ok-copy_chunk.ensures.chunk c.in_ok-copy_chunk.ensures.ok in
+    let later = record c.self.inside { copies = c.copy_chunk.new.self; known = c.send.new.self } in
+    (passed_row later (state_of later) c.place_up_to-from.result
+    (copy_row c.self.inside c.args.self.now c.args.copy.now c.copy_chunk.new.self c.send.new.self c.self.invariant c.self.view_is c.requires sent c.send.ensures).store refl c.place_up_to-from.ensures).store
 
 pub returns-clause-ok : goal.returns-clause-ok
 returns-clause-ok c =
-    let e = c.args.copy.now in
-    let sent : c.copy_chunk.new.self ≡ record c.self.inside.copies { copying = sends e.receiver e.segment e.provider e.batch c.self.inside.copies.copying } =
-    sent_is c.in_ok-copy_chunk.field-0 (chunk_of c.self.inside.copies.copying e.receiver e.segment e.provider c.self.inside.config.chunk) e.batch c.copy_chunk.new.self
-    (λ (chunk : Portion StampedEntry). record c.self.inside.copies { copying = sends e.receiver e.segment e.provider chunk c.self.inside.copies.copying })
-    (c.in_ok-copy_chunk.ensures.sent ∙ (copy_ready c.self.inside c.args.self.now c.args.copy.now c.self.invariant c.self.view_is c.requires).may) c.in_ok-copy_chunk.ensures.chunk c.in_ok-copy_chunk.ensures.ok
-    (next_is c.self.inside c.args.self.now e c.self.view_is c.requires) in
-    (copy_row c.self.inside c.args.self.now e c.copy_chunk.new.self c.self.invariant c.self.view_is c.requires sent).seen
+    let sent =
+    copy_sends c.self.inside c.args.self.now c.args.copy.now c.copy_chunk.new.self c.in_ok-copy_chunk.field-0 c.self.invariant c.self.view_is c.requires c.in_ok-copy_chunk.ensures.sent
+    c.in_ok-copy_chunk.ensures.chunk c.in_ok-copy_chunk.ensures.ok in
+    (copy_row c.self.inside c.args.self.now c.args.copy.now c.copy_chunk.new.self c.send.new.self c.self.invariant c.self.view_is c.requires sent c.send.ensures).seen

@@ -14,10 +14,10 @@ depart-requires-clause-no_provider c = no_provider_left c.self.inside.copies c.f
 
 pub invariant_of-self : goal.invariant_of-self
 invariant_of-self c =
-    (depart_row c.self.inside c.args.self.now c.args.node (set_of.contains c.depart-lost.result) c.depart-lost.new.self c.forget_all.new.copies c.depart.new.self c.self.invariant c.self.view_is c.requires c.depart-lost.ensures.lost
-    c.depart-lost.ensures.departs (left_step c.self.inside.copies c.cancel.new.self c.restart.new.self c.forget_all.new.copies c.args.node (set_of.contains c.depart-lost.result) c.cancel.ensures c.restart.ensures c.forget_all.ensures) c.depart.ensures).store
+    (depart_row c.self.inside c.args.self.now c.args.node (set_of.contains c.depart-lost.result) c.depart-lost.new.self c.forget_all.new.copies c.depart.new.self c.change.new.self c.self.invariant c.self.view_is c.requires c.depart-lost.ensures.lost
+    c.depart-lost.ensures.departs (left_step c.self.inside.copies c.cancel.new.self c.restart.new.self c.forget_all.new.copies c.args.node (set_of.contains c.depart-lost.result) c.cancel.ensures c.restart.ensures c.forget_all.ensures) c.depart.ensures c.change.ensures).store
 
 pub returns-clause-departed : goal.returns-clause-departed
 returns-clause-departed c =
-    (depart_row c.self.inside c.args.self.now c.args.node (set_of.contains c.depart-lost.result) c.depart-lost.new.self c.forget_all.new.copies c.depart.new.self c.self.invariant c.self.view_is c.requires c.depart-lost.ensures.lost
-    c.depart-lost.ensures.departs (left_step c.self.inside.copies c.cancel.new.self c.restart.new.self c.forget_all.new.copies c.args.node (set_of.contains c.depart-lost.result) c.cancel.ensures c.restart.ensures c.forget_all.ensures) c.depart.ensures).seen
+    (depart_row c.self.inside c.args.self.now c.args.node (set_of.contains c.depart-lost.result) c.depart-lost.new.self c.forget_all.new.copies c.depart.new.self c.change.new.self c.self.invariant c.self.view_is c.requires c.depart-lost.ensures.lost
+    c.depart-lost.ensures.departs (left_step c.self.inside.copies c.cancel.new.self c.restart.new.self c.forget_all.new.copies c.args.node (set_of.contains c.depart-lost.result) c.cancel.ensures c.restart.ensures c.forget_all.ensures) c.depart.ensures c.change.ensures).seen

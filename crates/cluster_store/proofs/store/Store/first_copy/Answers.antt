@@ -7,13 +7,18 @@ use Rattle.grid_event.specs.declared.event.Event.TheVariants as events
 use Rattle.cluster_model.specs.Commands.{copy_event}
 use Rattle.cluster_model.specs.State.{State}
 use Rattle.cluster_store.specs.Sending.{sender}
-use Rattle.cluster_store.proofs.Searches.{row_here, row_left, row_none}
-use Rattle.cluster_store.proofs.SendingLaws.{copy_event-sender, copy_with, some_mapped}
+use Rattle.cluster_store.proofs.Searches.{row_here, row_left, row_none, row_start}
+use Rattle.cluster_store.proofs.SendingLaws.{copy_event-none, copy_event-sender, copy_with, some_mapped}
 use Rattle.cluster_store.proofs.store.Store.first_copy.Goals as goal
 
 -- there is a copy where there is a sender
 some_copy : (st : State) (node segment : ℕ) → is_some (copy_event st node segment) ≡ is_some (sender st node segment)
 some_copy st node segment = ap is_some (copy_event-sender st node segment) ∙ some_mapped (λ provider. events.Copy (copy_with st node segment provider)) (sender st node segment)
+
+pub loop-number-init : goal.loop-number-init
+loop-number-init c =
+    let st = c.args.self.now in
+    row_start (copy_event st c.args.node) st.config.segments c.first_sending-start.result (λ k before within. copy_event-none st c.args.node k (c.first_sending-start.ensures k before within))
 
 pub returns-then-is_some : goal.returns-then-is_some
 returns-then-is_some c =

@@ -14,10 +14,10 @@ drop_unwritten-requires-clause-no_provider c = install_provider c.self.inside c.
 
 pub invariant_of-self : goal.invariant_of-self
 invariant_of-self c =
-    (install_row c.self.inside c.args.self.now c.args.node c.args.id c.newest.result.now c.install.new.self c.drop_unwritten.new.copies c.self.invariant c.self.view_is c.requires c.install.ensures.installs
-    (c.newest.ensures.newest ∙ install_newest c.self.inside.coord c.install.new.self c.args.node c.install.ensures.installs) c.drop_unwritten.ensures.kept c.drop_unwritten.ensures.dropped).store
+    (install_row c.self.inside c.args.self.now c.args.node c.args.id c.newest.result.now c.install.new.self c.drop_unwritten.new.copies c.change.new.self c.of-ahead.result c.self.invariant c.self.view_is c.requires c.install.ensures.installs
+    (c.newest.ensures.newest ∙ install_newest c.self.inside.coord c.install.new.self c.args.node c.install.ensures.installs) c.drop_unwritten.ensures.kept c.drop_unwritten.ensures.dropped c.change.ensures c.of-ahead.ensures).store
 
 pub returns : goal.returns
 returns c =
-    (install_row c.self.inside c.args.self.now c.args.node c.args.id c.newest.result.now c.install.new.self c.drop_unwritten.new.copies c.self.invariant c.self.view_is c.requires c.install.ensures.installs
-    (c.newest.ensures.newest ∙ install_newest c.self.inside.coord c.install.new.self c.args.node c.install.ensures.installs) c.drop_unwritten.ensures.kept c.drop_unwritten.ensures.dropped).seen
+    (install_row c.self.inside c.args.self.now c.args.node c.args.id c.newest.result.now c.install.new.self c.drop_unwritten.new.copies c.change.new.self c.of-ahead.result c.self.invariant c.self.view_is c.requires c.install.ensures.installs
+    (c.newest.ensures.newest ∙ install_newest c.self.inside.coord c.install.new.self c.args.node c.install.ensures.installs) c.drop_unwritten.ensures.kept c.drop_unwritten.ensures.dropped c.change.ensures c.of-ahead.ensures).seen

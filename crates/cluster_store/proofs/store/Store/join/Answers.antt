@@ -13,8 +13,8 @@ join-requires-2 c = join_may c.self.inside c.args.self.now c.args.node c.self.vi
 
 pub invariant_of-self-2 : goal.invariant_of-self-2
 invariant_of-self-2 c =
-    (join_row c.self.inside c.args.self.now c.args.node c.join-2.new.self c.join.new.self c.self.invariant c.self.view_is c.requires c.join-2.ensures c.in_ok-join.ensures.ok).store
+    (join_row c.self.inside c.args.self.now c.args.node c.join-2.new.self c.join.new.self c.change.new.self c.of-ahead.result c.self.invariant c.self.view_is c.requires c.join-2.ensures c.in_ok-join.ensures.ok c.change.ensures c.of-ahead.ensures).store
 
 pub returns-clause-ok : goal.returns-clause-ok
 returns-clause-ok c =
-    (join_row c.self.inside c.args.self.now c.args.node c.join-2.new.self c.join.new.self c.self.invariant c.self.view_is c.requires c.join-2.ensures c.in_ok-join.ensures.ok).seen
+    (join_row c.self.inside c.args.self.now c.args.node c.join-2.new.self c.join.new.self c.change.new.self c.of-ahead.result c.self.invariant c.self.view_is c.requires c.join-2.ensures c.in_ok-join.ensures.ok c.change.ensures c.of-ahead.ensures).seen
