@@ -1,7 +1,8 @@
 #!/usr/bin/env bash
 # Times ./grid on runs of a whole cluster, each beside one of half its size: runs of the generator,
 # told in full and in brief; calls of 256 segments that make a million events; a rebalance of 256
-# segments over nine nodes in chunks of one entry; and a script of 4 MB.
+# segments over nine nodes in chunks of one entry; fifteen arrivals behind many calls; and a script of
+# 4 MB.
 # Prints the time and the peak memory of each run. The first run, which may build the program, isn't
 # timed.
 set -e
@@ -20,6 +21,22 @@ timed() {
     echo "$name: status $status, $(wc -c <"$folder/out") bytes, $(cat "$folder/time")"
 }
 
+# Tells the settings of a stepped script: so many nodes, segments, owners and entries a chunk.
+settings() {
+    printf 'script step\nnodes %s\nsegments %s\nowners %s\npartition plain\nvalues int\nchunk %s\n' "$@"
+}
+
+# Tells so many puts, one after the other at so many nodes.
+puts() {
+    awk -v puts="$1" -v nodes="$2" \
+        'BEGIN { for (i = 0; i < puts; i++) print "put " i % nodes " k" i " " i }'
+}
+
+# Tells so many calls, each driven to its answer before the next.
+calls() {
+    seq "$1" | awk '{ print "call " $1 " 0 exact 1 1 count\nfinish " $1 }'
+}
+
 : >"$folder/script"
 timed "gen 7" gen 7
 for size in 25000 50000; do
@@ -28,25 +45,18 @@ for size in 25000 50000; do
     done
 done
 for calls in 648 1297; do
-    awk -v calls="$calls" 'BEGIN {
-        print "script step\nnodes 1\nsegments 256\nowners 1\npartition plain\nvalues int\nchunk 1"
-        for (i = 1; i <= calls; i++) print "call " i " 0 exact 1 1 count\nfinish " i
-    }' >"$folder/script"
+    { settings 1 256 1 1; calls "$calls"; } >"$folder/script"
     timed "$calls calls of 256 segments" step
 done
-for puts in 8000 16000; do
-    awk -v puts="$puts" 'BEGIN {
-        print "script step\nnodes 8\nsegments 256\nowners 2\npartition plain\nvalues int\nchunk 1"
-        for (i = 0; i < puts; i++) print "put " i % 8 " k" i " " i
-        print "join 8\nsettle"
-    }' >"$folder/script"
-    timed "a rebalance of $puts keys" step
+for keys in 8000 16000; do
+    { settings 8 256 2 1; puts $keys 8; printf 'join 8\nsettle\n'; } >"$folder/script"
+    timed "a rebalance of $keys keys" step
 done
-for puts in 104000 208000; do
-    awk -v puts="$puts" 'BEGIN {
-        print "script step\nnodes 4\nsegments 64\nowners 2\npartition plain\nvalues int\nchunk 1000"
-        for (i = 0; i < puts; i++) print "put " i % 4 " k" i " " i
-        print "call 1 0 exact 4 1000 count\nfinish 1"
-    }' >"$folder/script"
-    timed "a script of $(wc -c <"$folder/script") bytes, $puts puts" step --form brief
+for calls in 400 800; do
+    { settings 1 256 2 1000; calls "$calls"; seq 15 | sed 's/.*/join &\nsettle/'; } >"$folder/script"
+    timed "$calls calls of 256 segments, and then fifteen arrivals" step
+done
+for keys in 104000 208000; do
+    { settings 4 64 2 1000; puts $keys 4; printf 'call 1 0 exact 4 1000 count\nfinish 1\n'; } >"$folder/script"
+    timed "a script of $(wc -c <"$folder/script") bytes, $keys puts" step --form brief
 done
