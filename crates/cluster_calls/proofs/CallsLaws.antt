@@ -15,12 +15,14 @@ use Rattle.grid_base.specs.declared.limits.TheConstants.{MOST_READ}
 use Rattle.local_publisher.specs.Stages.{is_open}
 use Rattle.local_publisher.specs.declared.unit_state.UnitState.{UnitState}
 use Rattle.local_publisher.specs.declared.unit_state.UnitState.TheVariants.{Asked, Running, Refused, Lost, Ended}
-use Rattle.cluster_model.specs.State.{Call, Unit, is_asked, is_ended, is_open_unit, is_running, with_unit}
+use Rattle.cluster_model.specs.State.{Call, Calling, Unit, call_of, is_asked, is_ended, is_open_unit, is_running, unit_in, with_unit}
 use Rattle.cluster_model.specs.Units.{read_by}
-use Rattle.cluster_calls.specs.Calling.{AreNumbered, Calling, call_in, changes_unit, is_one, may_end, may_read, unit_in}
+use Rattle.cluster_calls.specs.Calling.{AreNumbered, changes_unit, is_one, may_end, may_read}
 use Rattle.cluster_calls.specs.Insides.{ArePast, ArePieced, AreRight, IsCalls, calling_of}
+use Rattle.cluster_calls.specs.Listed.{AreRegistered}
 use Rattle.cluster_calls.specs.Parts.{HasParts, is_within}
 use Rattle.cluster_calls.specs.declared.parts.Parts.{Parts}
+use Rattle.loss_listener.specs.Registered.{Registered}
 use Rattle.reduce_cluster.specs.Reduced.{segments_of}
 use Rattle.cluster_calls.specs.Rows.{Rows, calls_in, may_close, may_end_one}
 use Rattle.cluster_calls.specs.declared.calls.Calls.TheInside.{Inside}
@@ -47,15 +49,16 @@ pub read_unit : (units : List Unit) (i : ℕ) (u unit : Unit) → slice_get unit
 read_unit units i u unit at is = is ∙ get_or_from_slice_get units i u unit at
 
 -- a unit is changed, and the entries read are counted on
-pub unit_kept : (fields : Inside) → IsCalls fields → (i : ℕ) (u v : Unit) (table : Rows) (read : ℕ) → slice_get fields.units.items i ≡ Some u
+pub unit_kept : (fields : Inside) → IsCalls fields → (i : ℕ) (u v : Unit) (table : Rows) (listeners : Registered) (read : ℕ) → slice_get fields.units.items i ≡ Some u
     → read + length u.work.entries ≡ fields.read + length v.work.entries → read ≤ MOST_READ
     → AreRight fields.segments (slice_set fields.units.items i v) table → ArePieced fields.segments (slice_set fields.units.items i v) table
-    → ArePast (slice_set fields.units.items i v) table fields.past
-    → IsCalls (record fields { units = with_item fields.units i v; table = table; read = read })
-unit_kept fields kept i u v table read at counted few right pieced past = record {
+    → ArePast (slice_set fields.units.items i v) table fields.past → AreRegistered (slice_set fields.units.items i v) listeners
+    → IsCalls (record fields { units = with_item fields.units i v; table = table; listeners = listeners; read = read })
+unit_kept fields kept i u v table listeners read at counted few right pieced past registered = record {
   few_segments = kept.few_segments;
   right = right;
   pieced = pieced;
+  registered = registered;
   numbered = omega (arith, length-set fields.units.items i v, kept.numbered);
   counted = omega (arith, read_by-set fields.units.items i u v at, kept.counted, counted);
   few = few;
@@ -69,10 +72,32 @@ rows_kept fields kept table right pieced past = record {
   few_segments = kept.few_segments;
   right = right;
   pieced = pieced;
+  registered = kept.registered;
   numbered = kept.numbered;
   counted = kept.counted;
   few = kept.few;
   past = past;
+}
+
+-- fields that are seen alike are right alike
+pub alike_kept : (fields after : Inside) → IsCalls fields → after.units.items ≡ fields.units.items → after.listeners ≡ fields.listeners → after.segments ≡ fields.segments → after.table ≡ fields.table
+    → after.read ≡ fields.read → after.past ≡ fields.past → IsCalls after
+alike_kept fields after kept units listeners segments table read past = record {
+  few_segments = omega (arith, kept.few_segments, segments);
+  right =
+      subst (λ s. AreRight s after.units.items after.table) (sym segments)
+      (subst (λ (us : List Unit). AreRight fields.segments us after.table) (sym units) (subst (λ (t : Rows). AreRight fields.segments fields.units.items t) (sym table) kept.right));
+  pieced =
+      subst (λ s. ArePieced s after.units.items after.table) (sym segments)
+      (subst (λ (us : List Unit). ArePieced fields.segments us after.table) (sym units) (subst (λ (t : Rows). ArePieced fields.segments fields.units.items t) (sym table) kept.pieced));
+  registered =
+      subst (λ (us : List Unit). AreRegistered us after.listeners) (sym units) (subst (λ (m : Registered). AreRegistered fields.units.items m) (sym listeners) kept.registered);
+  numbered = omega (arith, ap length units, kept.numbered);
+  counted = read ∙ kept.counted ∙ ap read_by (sym units);
+  few = omega (arith, read, kept.few);
+  past =
+      subst (λ n. ArePast after.units.items after.table n) (sym past)
+      (subst (λ (us : List Unit). ArePast us after.table fields.past) (sym units) (subst (λ (t : Rows). ArePast fields.units.items t fields.past) (sym table) kept.past));
 }
 
 -- a unit that is asked is open, hasn't ended, and nothing of it flies
@@ -120,13 +145,13 @@ pub nothing_flies : {A : Type 0} {P : Type 0} (o : Option A) → o ≡ None → 
 nothing_flies o none h = absurd (let w = sym h ∙ ap is_some none in cc)
 
 -- a unit is changed to the second one, rows to the second table
-pub changed_kept : (fields : Inside) → IsCalls fields → (i : ℕ) (u v after : Unit) (table after_table : Rows) (read : ℕ) → slice_get fields.units.items i ≡ Some u
+pub changed_kept : (fields : Inside) → IsCalls fields → (i : ℕ) (u v after : Unit) (table after_table : Rows) (listeners : Registered) (read : ℕ) → slice_get fields.units.items i ≡ Some u
     → after ≡ v → after_table ≡ table → read + length u.work.entries ≡ fields.read + length v.work.entries → read ≤ MOST_READ
     → AreRight fields.segments (slice_set fields.units.items i v) table → ArePieced fields.segments (slice_set fields.units.items i v) table
-    → ArePast (slice_set fields.units.items i v) table fields.past
-    → IsCalls (record fields { units = with_item fields.units i after; table = after_table; read = read })
-changed_kept fields kept i u v after table after_table read at unit_is table_is counted few right pieced past =
-    unit_kept fields kept i u after after_table read at
+    → ArePast (slice_set fields.units.items i v) table fields.past → AreRegistered (slice_set fields.units.items i v) listeners
+    → IsCalls (record fields { units = with_item fields.units i after; table = after_table; listeners = listeners; read = read })
+changed_kept fields kept i u v after table after_table listeners read at unit_is table_is counted few right pieced past registered =
+    unit_kept fields kept i u after after_table listeners read at
     (let same : length after.work.entries ≡ length v.work.entries = ap (λ (x : Unit). length x.work.entries) unit_is in omega (arith, counted, same)) few
     (subst (λ (x : Unit). AreRight fields.segments (slice_set fields.units.items i x) after_table) (sym unit_is)
     (subst (λ (t : Rows). AreRight fields.segments (slice_set fields.units.items i v) t) (sym table_is) right))
@@ -134,6 +159,7 @@ changed_kept fields kept i u v after table after_table read at unit_is table_is 
     (subst (λ (t : Rows). ArePieced fields.segments (slice_set fields.units.items i v) t) (sym table_is) pieced))
     (subst (λ (x : Unit). ArePast (slice_set fields.units.items i x) after_table fields.past) (sym unit_is)
     (subst (λ (t : Rows). ArePast (slice_set fields.units.items i v) t fields.past) (sym table_is) past))
+    (subst (λ (x : Unit). AreRegistered (slice_set fields.units.items i x) listeners) (sym unit_is) registered)
 
 -- then the unit of the number is seen as changed
 pub changed_seen : (fields : Inside) → IsCalls fields → (number i : ℕ) (u after : Unit) (table : Rows) (change : Unit → Unit) → i ≡ number - 1 → 1 ≤ number
@@ -213,8 +239,9 @@ none_there : {X : Type 0} {P : Type 0} (xs : List X) (i : ℕ) (x : X) → xs �
 none_there xs i x none at = not_some x (sym (ap (λ (ys : List _). slice_get ys i) none) ∙ at)
 
 -- nothing was asked yet
-pub nothing_kept : (fields : Inside) → fields.units.items ≡ [] → fields.table ≡ map_of.empty → fields.segments ≤ 256 → fields.read ≡ 0 → fields.past ≡ 0 → IsCalls fields
-nothing_kept fields none empty few read past = record {
+pub nothing_kept : (fields : Inside) → fields.units.items ≡ [] → fields.table ≡ map_of.empty → fields.segments ≤ 256 → fields.read ≡ 0 → fields.past ≡ 0
+    → AreRegistered fields.units.items fields.listeners → IsCalls fields
+nothing_kept fields none empty few read past registered = record {
   few_segments = few;
   right = record {
     placed = λ i u at. none_there fields.units.items i u none at;
@@ -225,6 +252,7 @@ nothing_kept fields none empty few read past = record {
     newest = λ i j u z at zt. none_there fields.units.items i u none at;
     parts = λ n row at. not_some row (sym (ap (λ (t : Rows). map_of.get t n) empty ∙ map_of.get-empty nat_cmp n) ∙ at);
   };
+  registered = registered;
   numbered = omega (arith, ap length none);
   counted = read ∙ ap read_by (sym none);
   few = omega (arith, read);
@@ -240,7 +268,7 @@ no_calls_in = map_of.same_map nat_cmp_total nat_cmp-IsAntisymmetric _ _ (λ q.
 
 -- a unit that is found is on a segment that there is, and its call is there
 abbrev pub IsFoundWithin : Calling → ℕ → Type 0
-IsFoundWithin x n = (u : Unit) → unit_in x.units n ≡ Some u → (u.work.segment < x.segments) × (is_some (call_in x u.work.call) ≡ true)
+IsFoundWithin x n = (u : Unit) → unit_in x.units n ≡ Some u → (u.work.segment < x.segments) × (is_some (call_of x u.work.call) ≡ true)
 
 mapped_there : (o : Option Row) → is_some (option_map (λ (r : Row). r.call) o) ≡ is_some o
 mapped_there None = refl

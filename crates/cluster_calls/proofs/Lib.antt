@@ -18,4 +18,6 @@ pub mod PartLaws
 pub mod AnswerLaws
 pub mod PartRounds
 pub mod PartQueries
+pub mod ListedLaws
+pub mod LosingLaws
 pub mod TestLaws

@@ -1,5 +1,5 @@
 -- Lists of which an element is changed: which of them pass a test, and lists through a function.
-use Rattle.std.proofs.Common.{◌≡◌, ◌≢◌, ◌⊎◌, inl, inr, ℕ, zero, suc, ◌+◌, ◌≤◌, ◌<◌, Bool, true, false, cond, List, [], ◌∷◌, ◌++◌, map, filter, take, drop, replicate, Some, refl, sym, ap, ◌∙◌, arith, add-one}
+use Rattle.std.proofs.Common.{◌≡◌, ◌≢◌, ℕ, zero, suc, ◌+◌, ◌≤◌, ◌<◌, Bool, true, false, cond, List, [], ◌∷◌, ◌++◌, map, filter, take, replicate, Some, refl, sym, ap, ◌∙◌, arith, add-one}
 use Rattle.std.specs.List.{range_with_len}
 use Rattle.std.specs.Prelude.{slice_get, slice_set, slice_index_or}
 use Rattle.cluster_calls.proofs.ListLaws.{not_some, same_some}
@@ -37,21 +37,6 @@ filter-set_last p (z ∷ xs) (suc i) x y h was is later =
 pub filter-more_out : {X : Type 0} (p : X → Bool) (xs ys : List X) → ((i : ℕ) (y : X) → slice_get ys i ≡ Some y → p y ≡ false) → filter p (xs ++ ys) ≡ filter p xs
 filter-more_out p [] ys h = filter_none p ys h
 filter-more_out p (x ∷ xs) ys h = ap (λ zs. cond (p x) (x ∷ zs) zs) (filter-more_out p xs ys h)
-
--- the first elements are changed by a function, but for those that pass neither before nor after
-pub filter-map_out : {X : Type 0} (p : X → Bool) (f : X → X) (k : ℕ) (xs : List X)
-    → ((j : ℕ) (z : X) → j < k → slice_get xs j ≡ Some z → (f z ≡ z) ⊎ ((p z ≡ false) × (p (f z) ≡ false))) → filter p (map f (take k xs) ++ drop k xs) ≡ filter p xs
-filter-map_out p f zero xs h = refl
-filter-map_out p f (suc k) [] h = refl
-filter-map_out p f (suc k) (x ∷ xs) h =
-    let rest = filter-map_out p f k xs (λ j z l e. h (suc j) z (omega (arith, l)) e) in
-    elim (h 0 x (omega arith) refl) [
-      | inl e ↦ λ i. cond (p (e i)) (e i ∷ rest i) (rest i)
-      | inr e ↦
-          ap (λ b. cond b (f x ∷ filter p (map f (take k xs) ++ drop k xs)) (filter p (map f (take k xs) ++ drop k xs))) e.1
-          ∙ rest
-          ∙ sym (ap (λ b. cond b (x ∷ filter p xs) (filter p xs)) e.0)
-    ]
 
 -- functions that agree on a list
 pub map_alike : {X Y : Type 0} (f g : X → Y) → ((x : X) → f x ≡ g x) → (xs : List X) → map f xs ≡ map g xs
@@ -91,9 +76,3 @@ map-take_suc f (z ∷ xs) (suc k) x at = ap (λ ys. f z ∷ ys) (map-take_suc f 
 -- one more of the first elements through a function
 pub map-take_more : {X Y : Type 0} (f : X → Y) (xs : List X) (k : ℕ) (x : X) → slice_get xs k ≡ Some x → map f (take k xs) ++ f x ∷ [] ≡ map f (take (k + 1) xs)
 map-take_more f xs k x at = map-take_suc f xs k x at ∙ ap (λ n. map f (take n xs)) (sym (add-one k))
-
--- behind the first elements, which are changed by a function, the others stand as before
-pub get-map_take : {X : Type 0} (f : X → X) (xs : List X) (k : ℕ) → slice_get (map f (take k xs) ++ drop k xs) k ≡ slice_get xs k
-get-map_take f xs zero = refl
-get-map_take f [] (suc k) = refl
-get-map_take f (x ∷ xs) (suc k) = get-map_take f xs k

@@ -1,10 +1,8 @@
 -- What is booked, and what is to be booked, by the rows of the calls.
-use Rattle.std.proofs.Common.{◌≡◌, ◌⊎◌, inl, inr, ℕ, zero, suc, ◌+◌, ◌≤◌, ◌<◌, Bool, true, false, cond, not, ◌&&◌, ◌||◌, ◌==◌, List, [], ◌∷◌, ◌++◌, map, take, drop, Option, Some, None, is_some, refl, sym, ap, subst, ◌∙◌, arith}
+use Rattle.std.proofs.Common.{◌≡◌, ℕ, zero, suc, ◌+◌, ◌≤◌, ◌<◌, Bool, true, false, cond, not, ◌&&◌, ◌||◌, List, [], ◌∷◌, ◌++◌, Option, Some, None, is_some, refl, sym, ap, subst, ◌∙◌, arith}
 use Rattle.std.specs.FinMap as map_of
-use Rattle.std.specs.FinSet as set_of
 use Rattle.std.specs.List.{list_all, range_with_len}
 use Rattle.std.specs.Option.{option_map}
-use Rattle.std.specs.Ordering.{nat_cmp}
 use Rattle.std.specs.Prelude.{slice_get, slice_index_or, unwrap_or}
 use Rattle.delivery_mode.specs.Guarantee.{keeps_lost}
 use Rattle.local_publisher.specs.Units.{ended}
@@ -13,25 +11,25 @@ use Rattle.pipeline_split.specs.Pieces.{joined, piece}
 use Rattle.pipeline_split.specs.declared.piece.Piece.{Piece}
 use Rattle.pipeline_split.specs.declared.piece.Piece.TheVariants.{Nothing}
 use Rattle.reduce_cluster.specs.Reduced.{booked_for, share_of}
-use Rattle.cluster_model.specs.State.{Call, Unit, is_of, is_on, is_open_unit, is_running, with_loss}
+use Rattle.cluster_model.specs.State.{Call, Calling, Unit, call_of, is_of, is_on, is_open_unit, with_loss}
 use Rattle.cluster_model.specs.Topologies.{is_complete}
-use Rattle.cluster_calls.specs.Calling.{Calling, any_open, call_in, ceases_at, is_one, with_departure, with_installation}
+use Rattle.cluster_model.specs.Calls.{any_open}
+use Rattle.cluster_calls.specs.Calling.{is_one}
 use Rattle.cluster_calls.specs.Insides.{ArePieced, AreRight}
-use Rattle.cluster_calls.specs.Parts.{HasParts, IsParts, booked_units, booking, booking_by, booking_ceased, booking_departed, booking_in, is_booked, is_parted, part_by, part_in, part_on, piece_by, read_of}
+use Rattle.cluster_calls.specs.Parts.{HasParts, IsParts, booked_units, booking, booking_by, booking_in, is_booked, is_parted, part_by, part_in, part_on, piece_by, read_of}
 use Rattle.cluster_calls.specs.Rows.{Rows, calls_in}
 use Rattle.cluster_calls.specs.declared.parts.Parts.{Parts}
 use Rattle.cluster_calls.specs.declared.row.Row.{Row}
 use Rattle.cluster_calls.proofs.AnswerLaws.{piece-push, read-push}
 use Rattle.cluster_calls.proofs.ListLaws.{any_at, not_some, same_some}
 use Rattle.cluster_calls.proofs.PartLaws.{booking_none, booking_row, is_counted}
-use Rattle.cluster_calls.proofs.PartLists.{filter-map_out, filter_none, index-map_range}
+use Rattle.cluster_calls.proofs.PartLists.{filter_none, index-map_range}
 use Rattle.cluster_calls.proofs.QueryLaws.{no_segment}
 use Rattle.cluster_calls.proofs.RightLaws.{and_none, both_true}
 use Rattle.cluster_calls.proofs.RoundLaws.{get-range}
-use Rattle.cluster_calls.proofs.RowTables.{equal, get-calls_in}
-use Rattle.cluster_calls.proofs.CallsLaws.{running_open}
+use Rattle.cluster_calls.proofs.RowTables.{get-calls_in}
 use Rattle.cluster_calls.proofs.BothLaws.{and_left, and_right}
-use Rattle.cluster_calls.proofs.UnitLaws.{Alike, is_busy}
+use Rattle.cluster_calls.proofs.UnitLaws.{is_busy}
 
 cond_none : {A : Type 0} (b : Bool) (o : Option A) → o ≡ None → None ≡ cond b o None
 cond_none true o h = sym h
@@ -130,13 +128,13 @@ lost_as_ended units u at call keeps =
     (λ i. cond (is_parted call && sym keeps i) (Some (piece (remote_of call.request.pipeline) (reads i))) None)
 
 -- what is to be booked of a lost unit is, where the guarantee keeps what it read, what would be booked had it ended
-pub lost_booking : (x : Calling) (u : Unit) (at : Option ℕ) (call : Call) → call_in x u.work.call ≡ Some call → keeps_lost call.request.guarantee ≡ true
+pub lost_booking : (x : Calling) (u : Unit) (at : Option ℕ) (call : Call) → call_of x u.work.call ≡ Some call → keeps_lost call.request.guarantee ≡ true
     → booking_in x (record u { work = ended u.work }) ≡ booking_in x (with_loss at u)
 lost_booking x u at call is keeps =
     ap (booking_by x.units (record u { work = ended u.work })) is ∙ lost_as_ended x.units u at call keeps ∙ sym (ap (booking_by x.units (with_loss at u)) is)
 
 -- and nothing where it doesn't
-pub lost_nothing : (x : Calling) (u : Unit) (at : Option ℕ) (call : Call) → call_in x u.work.call ≡ Some call → keeps_lost call.request.guarantee ≡ false
+pub lost_nothing : (x : Calling) (u : Unit) (at : Option ℕ) (call : Call) → call_of x u.work.call ≡ Some call → keeps_lost call.request.guarantee ≡ false
     → None ≡ booking_in x (with_loss at u)
 lost_nothing x u at call is drops = booking_none x.units (with_loss at u) call drops ∙ sym (ap (booking_by x.units (with_loss at u)) is)
 
@@ -172,56 +170,6 @@ all_shut segments units rows n row right g whole i u at own = refused (is_open_u
 -- an open unit is the newest of its call on its segment
 abbrev pub AreNewest : List Unit → Type 0
 AreNewest units = (i j : ℕ) (u z : Unit) → slice_get units i ≡ Some u → slice_get units j ≡ Some z → is_open_unit u ≡ true → z.work.call ≡ u.work.call → z.work.segment ≡ u.work.segment → j ≤ i
-
--- what is to be booked of an open unit stays where units before it are changed that are open too
-booking_before : (units : List Unit) (f : Unit → Unit) (k : ℕ) (h v : Unit) (o : Option Call) → AreNewest units → slice_get units k ≡ Some h → Alike h v
-    → ((z : Unit) → (f z ≡ z) ⊎ ((is_open_unit z ≡ true) × Alike z (f z))) → booking_by (map f (take k units) ++ drop k units) v o ≡ booking_by units v o
-booking_before units f k h v None newest at a changes = refl
-booking_before units f k h v (Some call) newest at a changes =
-    ap (λ (us : List Unit). cond (is_parted call && is_booked call v) (Some (piece (remote_of call.request.pipeline) (read_of (us ++ v ∷ [])))) None)
-    (filter-map_out (is_counted v.work.call call v.work.segment) f k units (λ j z l e. elim (changes z) [
-      | inl same ↦ inl same
-      | inr changed ↦
-          let off = apart j z l e changed.0 in
-          let off_then = (λ i. (changed.1.call i == v.work.call) && (changed.1.segment i == v.work.segment)) ∙ off in
-          inr (and_none (is_on v.work.call v.work.segment z) (is_booked call z) off, and_none (is_on v.work.call v.work.segment (f z)) (is_booked call (f z)) off_then)
-    ]))
-  where
-    apart : (j : ℕ) (z : Unit) → j < k → slice_get units j ≡ Some z → is_open_unit z ≡ true → is_on v.work.call v.work.segment z ≡ false
-    apart j z l e open_ = refused (is_on v.work.call v.work.segment z) (λ on.
-        let called = equal z.work.call v.work.call (and_left (z.work.call == v.work.call) (z.work.segment == v.work.segment) on) in
-        let here = equal z.work.segment v.work.segment (and_right (z.work.call == v.work.call) (z.work.segment == v.work.segment) on) in
-        let low = newest j k z h e at open_ (sym (called ∙ a.call)) (sym (here ∙ a.segment)) in
-        absurd (omega (arith, low, l)))
-
-departs : (node : ℕ) (z : Unit) → (with_departure node z ≡ z) ⊎ ((is_open_unit z ≡ true) × Alike z (with_departure node z))
-departs node z = by (is_open_unit z && (z.work.node == node)) refl
-  where
-    by : (b : Bool) → (is_open_unit z && (z.work.node == node)) ≡ b → (cond b (with_loss None z) z ≡ z) ⊎ ((is_open_unit z ≡ true) × Alike z (cond b (with_loss None z) z))
-    by true e = inr (and_left (is_open_unit z) (z.work.node == node) e, record { id = refl; call = refl; segment = refl })
-    by false e = inl refl
-
--- where units before it are lost by a departure, what is to be booked of a unit stays
-pub departed_before : (x : Calling) (node k : ℕ) (h : Unit) → AreNewest x.units → slice_get x.units k ≡ Some h
-    → booking_departed (record x { units = map (with_departure node) (take k x.units) ++ drop k x.units }) node h ≡ booking_departed x node h
-departed_before x node k h newest at =
-    ap (λ o. cond (is_open_unit h && (h.work.node == node)) o None)
-    (booking_before x.units (with_departure node) k h (with_loss None h) (call_in x h.work.call) newest at (record { id = refl; call = refl; segment = refl }) (departs node))
-
-ceases : (node : ℕ) (segments : set_of.FinSet nat_cmp) (id : ℕ) (z : Unit) → (with_installation node segments id z ≡ z) ⊎ ((is_open_unit z ≡ true) × Alike z (with_installation node segments id z))
-ceases node segments id z = by (ceases_at node segments z) refl
-  where
-    by : (b : Bool) → ceases_at node segments z ≡ b → (cond b (with_loss (Some id) z) z ≡ z) ⊎ ((is_open_unit z ≡ true) × Alike z (cond b (with_loss (Some id) z) z))
-    by true e =
-        inr (running_open z.work.state (and_left (is_running z.work.state) ((z.work.node == node) && set_of.contains segments z.work.segment) e), record { id = refl; call = refl; segment = refl })
-    by false e = inl refl
-
--- and where they are lost by an installation
-pub ceased_before : (x : Calling) (node : ℕ) (segments : set_of.FinSet nat_cmp) (id k : ℕ) (h : Unit) → AreNewest x.units → slice_get x.units k ≡ Some h
-    → booking_ceased (record x { units = map (with_installation node segments id) (take k x.units) ++ drop k x.units }) node segments id h ≡ booking_ceased x node segments id h
-ceased_before x node segments id k h newest at =
-    ap (λ o. cond (ceases_at node segments h) o None)
-    (booking_before x.units (with_installation node segments id) k h (with_loss (Some id) h) (call_in x h.work.call) newest at (record { id = refl; call = refl; segment = refl }) (ceases node segments id))
 
 -- what passes is there
 pub one_some : {A : Type 0} (test : A → Bool) (o : Option A) → is_one test o ≡ true → is_some o ≡ true

@@ -8,7 +8,7 @@ use Rattle.grid_event.specs.declared.call_events.Ask.{Ask}
 use Rattle.grid_event.specs.declared.request.Request.{Request}
 use Rattle.pipeline_split.specs.Halves.{remote_of}
 use Rattle.cluster_model.specs.State.{Call, Unit, is_of, is_on, is_open_unit, is_walk}
-use Rattle.cluster_calls.specs.Calling.{new_call, unit_made}
+use Rattle.cluster_model.specs.Calls.{new_call, unit_made}
 use Rattle.cluster_calls.specs.Insides.{ArePieced, AreRight}
 use Rattle.cluster_calls.specs.Parts.{HasParts, IsParts, is_booked, made_parts, no_parts, part_on, piece_by}
 use Rattle.cluster_calls.specs.Rows.{Rows, changes_row, with_row_asks}

@@ -4,8 +4,8 @@ use Rattle.std.specs.FinMap as map_of
 use Rattle.std.specs.Option.{option_map}
 use Rattle.std.specs.Prelude.{slice_get, slice_set}
 use Rattle.cluster_model.specs.Commands.{is_unanswered}
-use Rattle.cluster_model.specs.State.{Unit, is_open_unit}
-use Rattle.cluster_calls.specs.Calling.{NoneWaits, call_in}
+use Rattle.cluster_model.specs.State.{Unit, call_of, is_open_unit}
+use Rattle.cluster_calls.specs.Calling.{NoneWaits}
 use Rattle.cluster_calls.specs.Insides.{ArePast, AreRight, calling_of}
 use Rattle.cluster_calls.specs.Rows.{Rows, changes_row}
 use Rattle.cluster_calls.specs.declared.calls.Calls.TheInside.{Inside}
@@ -85,7 +85,7 @@ answered_is (Some row) h = by row.call.outcome (h row refl)
 -- none of the units that are passed over waits
 pub none_waits : (fields : Inside) (past : ℕ) → ArePast fields.units.items fields.table past → NoneWaits (calling_of fields) past
 none_waits fields past kept i u at low =
-    elim (is_open_unit u) as (λ b. is_open_unit u ≡ b → (b && is_unanswered (call_in (calling_of fields) u.work.call)) ≡ false) [
+    elim (is_open_unit u) as (λ b. is_open_unit u ≡ b → (b && is_unanswered (call_of (calling_of fields) u.work.call)) ≡ false) [
       | true ↦ λ open_. ap is_unanswered (get-calls_in fields.table u.work.call) ∙ answered_is (map_of.get fields.table u.work.call) (kept.over i u at low open_)
       | false ↦ λ closed. refl
     ] refl
@@ -102,7 +102,7 @@ may_pass fields past within none = record {
   over = λ i u at low open_ row g.
       outcome_is row.call.outcome
       (sym (ap is_unanswered (get-calls_in fields.table u.work.call ∙ ap (option_map (λ (r : Row). r.call)) g))
-      ∙ ap (λ b. b && is_unanswered (call_in (calling_of fields) u.work.call)) (sym open_)
+      ∙ ap (λ b. b && is_unanswered (call_of (calling_of fields) u.work.call)) (sym open_)
       ∙ none i u at low);
 }
 

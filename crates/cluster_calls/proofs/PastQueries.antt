@@ -5,8 +5,8 @@ use Rattle.std.specs.FinMap as map_of
 use Rattle.std.specs.Option.{option_map}
 use Rattle.std.specs.Prelude.{slice_get}
 use Rattle.cluster_model.specs.Commands.{is_unanswered}
-use Rattle.cluster_model.specs.State.{Call, Unit, is_open_unit}
-use Rattle.cluster_calls.specs.Calling.{Calling, NoneWaits, call_in, is_waiting, round_units}
+use Rattle.cluster_model.specs.State.{Call, Calling, Unit, call_of, is_open_unit}
+use Rattle.cluster_calls.specs.Calling.{NoneWaits, is_waiting, round_units}
 use Rattle.cluster_calls.specs.Insides.{IsCalls, calling_of}
 use Rattle.cluster_calls.specs.declared.calls.Calls.TheInside.{Inside}
 use Rattle.cluster_calls.specs.declared.row.Row.{Row}
@@ -35,8 +35,8 @@ closed_by true b h g = absurd (let w = sym g ∙ h in cc)
 closed_by false b h g = refl
 
 -- a unit of the last round of a call that isn't answered is closed where it is passed over
-pub round_past : (fields : Inside) → IsCalls fields → (number : ℕ) (round : List Unit) (first : Unit) → is_unanswered (call_in (calling_of fields) number) ≡ true
-    → ((call : Call) → call_in (calling_of fields) number ≡ Some call → round ≡ round_units fields.units.items call) → slice_get round 0 ≡ Some first
+pub round_past : (fields : Inside) → IsCalls fields → (number : ℕ) (round : List Unit) (first : Unit) → is_unanswered (call_of (calling_of fields) number) ≡ true
+    → ((call : Call) → call_of (calling_of fields) number ≡ Some call → round ≡ round_units fields.units.items call) → slice_get round 0 ≡ Some first
     → (i : ℕ) (u : Unit) → slice_get round i ≡ Some u → i < fields.past - (first.work.id - 1) → is_open_unit u ≡ false
 round_past fields kept number round first open_ are head i u at low =
     let units = fields.units.items in
@@ -49,6 +49,6 @@ round_past fields kept number round first open_ are head i u at low =
     let here = get-stretch (right.start - 1) right.count units i u (sym (ap (λ (us : List Unit). slice_get us i) stretch) ∙ at) in
     let id = numbers fields kept ((right.start - 1) + 0) first front.0 in
     let own = right.own ((right.start - 1) + i) u here.0 (omega (arith, right.positive)) (omega (arith, here.1, right.positive)) in
-    closed_by (is_open_unit u) (is_unanswered (call_in (calling_of fields) u.work.call))
+    closed_by (is_open_unit u) (is_unanswered (call_of (calling_of fields) u.work.call))
     (none_waits fields fields.past kept.past ((right.start - 1) + i) u here.0 (omega (arith, id, low)))
-    (ap (λ n. is_unanswered (call_in (calling_of fields) n)) own ∙ open_)
+    (ap (λ n. is_unanswered (call_of (calling_of fields) n)) own ∙ open_)

@@ -9,11 +9,13 @@ use Rattle.std.specs.Borrow.{Bor}
 use Rattle.std.specs.Option.{option_copied, option_map}
 use Rattle.std.specs.Prelude.{IfSome, slice_get, slice_index_or, slice_set}
 use Rattle.cluster_model.specs.Answers.{first_of}
-use Rattle.cluster_model.specs.State.{Unit, is_ended, is_of, is_on}
+use Rattle.cluster_model.specs.State.{Calling, Unit, is_ended, is_of, is_on, unit_in}
 use Rattle.cluster_model.specs.Topologies.{is_complete}
 use Rattle.cluster_model.specs.Units.{read_by}
 use Rattle.grid_event.specs.declared.call_events.Ask.{Ask}
-use Rattle.cluster_calls.specs.Calling.{AreNumbered, Calling, incomplete_from, is_one, newest_in, unit_in, unit_made}
+use Rattle.cluster_model.specs.Commands.{newest_in}
+use Rattle.cluster_model.specs.Calls.{unit_made}
+use Rattle.cluster_calls.specs.Calling.{AreNumbered, incomplete_from, is_one}
 use Rattle.cluster_calls.specs.Insides.{AreRight}
 use Rattle.cluster_calls.specs.Rows.{Rows}
 use Rattle.cluster_calls.specs.Tallies.{number_of}

@@ -5,10 +5,10 @@ use Rattle.std.specs.FinMap as map_of
 use Rattle.std.specs.Option.{option_map}
 use Rattle.std.specs.Prelude.{slice_get, slice_set}
 use Rattle.pipeline_split.specs.declared.piece.Piece.{Piece}
-use Rattle.cluster_model.specs.State.{Call, Unit, is_ended, is_of, is_on, is_open_unit, is_running, with_unit}
+use Rattle.cluster_model.specs.State.{Call, Unit, is_ended, is_of, is_on, is_open_unit, is_running, unit_in, with_unit}
 use Rattle.cluster_model.specs.Topologies.{is_complete}
 use Rattle.cluster_model.specs.Units.{read_by}
-use Rattle.cluster_calls.specs.Calling.{AreNumbered, is_one, unit_in}
+use Rattle.cluster_calls.specs.Calling.{AreNumbered, is_one}
 use Rattle.cluster_calls.specs.Insides.{AreRight, IsPlaced, IsRound, IsRow}
 use Rattle.cluster_calls.specs.Rows.{Rows, changes_row, with_row, with_row_end, with_row_without_open}
 use Rattle.cluster_calls.specs.declared.parts.Parts.{Parts}

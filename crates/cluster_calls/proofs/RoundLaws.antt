@@ -12,7 +12,8 @@ use Rattle.grid_event.specs.declared.call_events.Ask.{Ask}
 use Rattle.grid_event.specs.declared.request.Request.{Request}
 use Rattle.cluster_model.specs.State.{Call, Unit, is_ended, is_of, is_on, is_open_unit}
 use Rattle.cluster_model.specs.Topologies.{is_complete}
-use Rattle.cluster_calls.specs.Calling.{new_call, newest_in, unit_made}
+use Rattle.cluster_model.specs.Commands.{newest_in}
+use Rattle.cluster_model.specs.Calls.{new_call, unit_made}
 use Rattle.cluster_calls.specs.Insides.{AreRight, IsPlaced, IsRound, IsRow}
 use Rattle.cluster_calls.specs.Rows.{Rows, changes_row, with_row_asks}
 use Rattle.cluster_calls.specs.Tallied.{AreAsked, Tallied, nothing_tallied, with_asks}

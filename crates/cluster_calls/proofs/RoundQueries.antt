@@ -7,7 +7,8 @@ use Rattle.std.specs.List.{flat_map, range_with_len}
 use Rattle.std.specs.Prelude.{slice_get}
 use Rattle.topology_phase.specs.Owners.{among}
 use Rattle.cluster_model.specs.State.{Call, Unit, is_of, is_on, is_open_unit}
-use Rattle.cluster_calls.specs.Calling.{AreNumbered, open_in, round_units}
+use Rattle.cluster_model.specs.Commands.{open_units}
+use Rattle.cluster_calls.specs.Calling.{AreNumbered, round_units}
 use Rattle.cluster_calls.specs.Insides.{AreRight, IsRound}
 use Rattle.cluster_calls.specs.Rows.{Rows}
 use Rattle.cluster_calls.proofs.ListLaws.{not_some, same_some}
@@ -208,7 +209,7 @@ ascending n lo (suc m) (x ∷ xs) own low high up =
 
 -- the open units of a last round are all open units of the call
 pub open_stretch : (segments : ℕ) (units : List Unit) (rows : Rows) (number : ℕ) (call : Call) (calls : map_of.FinMap nat_cmp Call) (start count : ℕ) → AreRight segments units rows → IsKept units number call start count
-    → filter is_open_unit (take count (drop (start - 1) units)) ≡ open_in (record { segments = segments; units = units; calls = calls }) number
+    → filter is_open_unit (take count (drop (start - 1) units)) ≡ open_units (record { segments = segments; units = units; calls = calls }) number
 unfolding on_open
 open_stretch segments units rows number call calls start count right kept =
     let round = kept.round in
@@ -230,7 +231,7 @@ open_stretch segments units rows number call calls start count right kept =
 
 -- a call that isn't there has none
 pub none_open : (segments : ℕ) (units : List Unit) (rows : Rows) (number : ℕ) (calls : map_of.FinMap nat_cmp Call) → AreRight segments units rows → map_of.get rows number ≡ None
-    → [] ≡ open_in (record { segments = segments; units = units; calls = calls }) number
+    → [] ≡ open_units (record { segments = segments; units = units; calls = calls }) number
 unfolding on_open
 none_open segments units rows number calls right absent =
     sym (flat_nothing (λ s. filter (on_open number s) units) 0 segments (λ s.

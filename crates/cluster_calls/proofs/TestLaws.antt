@@ -8,21 +8,21 @@ use Rattle.std.specs.Ordering.{nat_cmp}
 use Rattle.grid_event.specs.declared.call_events.Ask.{Ask}
 use Rattle.grid_event.specs.declared.request.Request.{Request}
 use Rattle.suspect_retry.specs.Rounds.{granted_rounds}
-use Rattle.cluster_model.specs.Calls.{granted}
-use Rattle.cluster_model.specs.State.{Call, Unit, with_unit}
-use Rattle.cluster_calls.specs.Calling.{Calling, any_open, call_in, changes_unit, incomplete_from, incomplete_in, is_one, new_call, no_calls, puts_call, round_of, unit_in, unit_made}
+use Rattle.cluster_model.specs.Calls.{any_open, granted, incomplete, new_call, unit_made}
+use Rattle.cluster_model.specs.State.{Call, Calling, Unit, call_of, no_calls, unit_in, with_unit}
+use Rattle.cluster_calls.specs.Calling.{changes_unit, incomplete_from, is_one, puts_call, round_of}
 use Rattle.cluster_calls.proofs.RightLaws.{itself}
 use Rattle.cluster_calls.proofs.RowTables.{tied}
 
 -- at the start there is no call
-pub no_call : (x : Calling) (n : ℕ) → x ≡ no_calls 1 → call_in x n ≡ None
-no_call x n is = ap (λ (y : Calling). call_in y n) is ∙ map_of.get-empty nat_cmp n
+pub no_call : (x : Calling) (n : ℕ) → x ≡ no_calls 1 → call_of x n ≡ None
+no_call x n is = ap (λ (y : Calling). call_of y n) is ∙ map_of.get-empty nat_cmp n
 
 -- one segment, no unit, and the call has a round left
 pub record IsMade (x : Calling) (n : ℕ) : Type 0 where
   pub units : x.units ≡ []
   pub segments : x.segments ≡ 1
-  pub left : is_one (λ (call : Call). nat_lt call.rounds (granted call)) (call_in x n) ≡ true
+  pub left : is_one (λ (call : Call). nat_lt call.rounds (granted call)) (call_of x n) ≡ true
 
 pub is_made : (x y : Calling) (n node : ℕ) (request : Request) → y ≡ no_calls 1 → x ≡ puts_call n (new_call node request) y
     → granted_rounds request.guarantee request.rounds ≡ 2 → IsMade x n
@@ -30,7 +30,7 @@ is_made x y n node request first is two = record {
   units = ap (λ (z : Calling). z.units) is ∙ ap (λ (z : Calling). z.units) first;
   segments = ap (λ (z : Calling). z.segments) is ∙ ap (λ (z : Calling). z.segments) first;
   left =
-      ap (λ (z : Calling). is_one (λ (call : Call). nat_lt call.rounds (granted call)) (call_in z n)) is
+      ap (λ (z : Calling). is_one (λ (call : Call). nat_lt call.rounds (granted call)) (call_of z n)) is
       ∙ ap (is_one (λ (call : Call). nat_lt call.rounds (granted call)))
       (map_of.get-insert nat_cmp_total y.calls n (new_call node request) n ∙ ap (λ b. cond b (Some (new_call node request)) (map_of.get y.calls n)) (tied n n ∙ itself n))
       ∙ ap (nat_lt 0) two;
@@ -42,7 +42,7 @@ none_open x n made = ap (λ (us : List Unit). any_open us n) made.units
 pub is_first : (x : Calling) (n u : ℕ) → IsMade x n → u ≡ 1 → ◌≡◌ {A = List ℕ} (u ∷ []) (range_with_len (length x.units + 1) 1)
 is_first x n u made one = ap (λ (k : ℕ). k ∷ []) one ∙ ap (λ (us : List Unit). range_with_len (length us + 1) 1) (sym made.units)
 
-pub is_incomplete : (x : Calling) (n s : ℕ) → IsMade x n → s ≡ 0 → ◌≡◌ {A = List ℕ} (s ∷ []) (incomplete_in x n)
+pub is_incomplete : (x : Calling) (n s : ℕ) → IsMade x n → s ≡ 0 → ◌≡◌ {A = List ℕ} (s ∷ []) (incomplete x n)
 is_incomplete x n s made zero = ap (λ (k : ℕ). k ∷ []) zero ∙ sym (λ i. incomplete_from 0 (made.segments i) (made.units i) n)
 
 -- this is the one unit

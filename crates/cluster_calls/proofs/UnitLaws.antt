@@ -9,7 +9,7 @@ use Rattle.std.specs.Prelude.{slice_get, slice_set}
 use Rattle.indexmap.proofs.ReorderLemmas.{map-reverse}
 use Rattle.cluster_model.specs.State.{Unit, is_ended, is_of, is_on, is_open_unit}
 use Rattle.cluster_model.specs.Topologies.{is_complete}
-use Rattle.cluster_calls.specs.Calling.{newest_in}
+use Rattle.cluster_model.specs.Commands.{newest_in}
 use Rattle.cluster_calls.specs.Tallied.{Tallied, with_end, without_open}
 use Rattle.cluster_calls.specs.Tallies.{IsTally, count_open, number_of}
 use Rattle.cluster_calls.proofs.ListLaws.{any-set_more, any-set_same, count-range_less, count-set, find-map, get-map, length-filter, one, set-map, set_same}

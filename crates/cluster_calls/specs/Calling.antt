@@ -1,67 +1,31 @@
--- What a contract sees of the calls of a cluster: the calls, their units, and what is asked of both.
-use Rattle.std.specs.Prelude.{ℕ, ◌+◌, ◌<◌, ◌==◌, Bool, false, not, nat_le, ◌&&◌, cond, List, [], ◌++◌, map, reverse, Option, None, Some, is_none, is_some, ◌≡◌, drop, slice_get}
-use Rattle.std.specs.List.{filter, find, flat_map, list_all, list_any, range_with_len}
+-- What a contract asks of the calls of a cluster and their units beyond the words of the model.
+use Rattle.std.specs.Prelude.{ℕ, ◌+◌, ◌<◌, ◌==◌, Bool, false, not, nat_le, ◌&&◌, cond, List, ◌++◌, map, Option, None, Some, is_none, is_some, ◌≡◌, drop, slice_get}
+use Rattle.std.specs.List.{filter, list_all, range_with_len}
 use Rattle.std.specs.FinMap as map_of
 use Rattle.std.specs.FinSet as set_of
 use Rattle.std.specs.Ordering.{nat_cmp}
 use Rattle.grid_base.specs.declared.entry.Entry.{Entry}
 use Rattle.grid_event.specs.declared.call_events.Ask.{Ask}
-use Rattle.grid_event.specs.declared.request.Request.{Request}
-use Rattle.local_publisher.specs.Units.{asked_unit}
 use Rattle.suspect_retry.specs.Rounds.{closed_at}
 use Rattle.topology_phase.specs.Owners.{among}
-use Rattle.cluster_model.specs.Answers.{counts}
 use Rattle.cluster_model.specs.Commands.{is_unanswered}
-use Rattle.cluster_model.specs.State.{Call, Unit, is_asked, is_of, is_on, is_open_unit, is_running, with_loss, with_unit}
+use Rattle.cluster_model.specs.Calls.{unit_made}
+use Rattle.cluster_model.specs.State.{Call, Calling, Unit, call_of, is_asked, is_open_unit, is_running, with_loss, with_unit}
 use Rattle.cluster_model.specs.Topologies.{is_complete}
 use Rattle.cluster_calls.specs.Takings.{taken_in}
-
--- how many segments the keys are divided into, the units in the order of their numbers, and the calls by number
-pub record Calling : Type 0 where
-  pub segments : ℕ
-  pub units : List Unit
-  pub calls : map_of.FinMap nat_cmp Call
 
 -- units stand in the order of their numbers, which count from 1
 abbrev pub AreNumbered : List Unit → Type 0
 AreNumbered units = (i : ℕ) (u : Unit) → slice_get units i ≡ Some u → u.work.id ≡ i + 1
-
--- nothing was asked yet
-abbrev pub no_calls : ℕ → Calling
-no_calls segments = record { segments = segments; units = []; calls = map_of.empty }
-
--- the call of that number, where there is one
-abbrev pub call_in : Calling → ℕ → Option Call
-call_in calling number = map_of.get calling.calls number
-
--- the unit of that number, where there is one
-abbrev pub unit_in : List Unit → ℕ → Option Unit
-unit_in units number = find (λ (unit : Unit). unit.work.id == number) units
 
 -- there is one, and it passes the test
 abbrev pub is_one : {A : Type 0} → (A → Bool) → Option A → Bool
 is_one test None = false
 is_one test (Some it) = test it
 
--- a unit of the call is open
-abbrev pub any_open : List Unit → ℕ → Bool
-any_open units call = list_any (λ unit. is_of call unit && is_open_unit unit) units
-
 -- the segments from this one on that are incomplete for the call, ascending
 abbrev pub incomplete_from : ℕ → ℕ → List Unit → ℕ → List ℕ
 incomplete_from from count units call = filter (λ segment. not (is_complete units call segment)) (range_with_len from count)
-
--- the segments that are incomplete for the call, ascending
-abbrev pub incomplete_in : Calling → ℕ → List ℕ
-incomplete_in calling call = incomplete_from 0 calling.segments calling.units call
-
--- every segment is complete for the call
-abbrev pub all_complete_in : Calling → ℕ → Bool
-all_complete_in calling call = list_all (is_complete calling.units call) (range_with_len 0 calling.segments)
-
--- the newest unit of the call on the segment
-abbrev pub newest_in : List Unit → ℕ → ℕ → Option Unit
-newest_in units call segment = find (is_on call segment) (reverse units)
 
 -- the units of the call's last round
 abbrev pub round_units : List Unit → Call → List Unit
@@ -71,14 +35,9 @@ round_units units call = filter (λ (unit : Unit). among unit.work.id call.last_
 abbrev pub caught_up : List Unit → Call → ℕ → Bool
 caught_up units call installed = list_all (λ (unit : Unit). nat_le (closed_at unit.work.state) installed) (round_units units call)
 
--- the open units of a call by ascending segment
-abbrev pub open_in : Calling → ℕ → List Unit
-open_in calling call =
-    flat_map (λ segment. filter (λ unit. is_on call segment unit && is_open_unit unit) calling.units) (range_with_len 0 calling.segments)
-
 -- the unit is open, and its call isn't answered
 abbrev pub is_waiting : Calling → Unit → Bool
-is_waiting calling unit = is_open_unit unit && is_unanswered (call_in calling unit.work.call)
+is_waiting calling unit = is_open_unit unit && is_unanswered (call_of calling unit.work.call)
 
 -- no unit waits whose place is below this one
 abbrev pub NoneWaits : Calling → ℕ → Type 0
@@ -89,32 +48,6 @@ pub record IsRest (calling : Calling) (units : List Unit) : Type 0 where
   pub skipped : ℕ
   pub rest : units ≡ drop skipped calling.units
   pub none : NoneWaits calling skipped
-
--- the evidence of a call: segments ascending, of each what its units read that count, in the order of asking
-abbrev pub evidence_in : Calling → ℕ → Call → List Entry
-evidence_in calling number call =
-    flat_map
-    (λ segment.
-    flat_map (λ (unit : Unit). unit.work.entries)
-    (filter (λ (unit : Unit). is_on number segment unit && counts call unit) calling.units))
-    (range_with_len 0 calling.segments)
-
--- a call that was just made
-abbrev pub new_call : ℕ → Request → Call
-new_call originator request = record {
-  originator = originator;
-  request = request;
-  rounds = 0;
-  last_round = [];
-  taken = [];
-  given = 0;
-  lost = set_of.empty;
-  outcome = None;
-}
-
--- the unit that an ask of the call makes
-abbrev pub unit_made : ℕ → ℕ → Ask → Unit
-unit_made call id ask = record { work = asked_unit ask.unit call ask.segment ask.node id; flying = None }
 
 -- the unit is asked, and not by a later topology than this one
 abbrev pub may_begin : ℕ → Unit → Bool
@@ -136,10 +69,6 @@ may_end unit = is_running unit.work.state && (unit.work.last && is_none unit.fly
 abbrev pub ceases_at : ℕ → set_of.FinSet nat_cmp → Unit → Bool
 ceases_at node segments unit =
     is_running unit.work.state && ((unit.work.node == node) && set_of.contains segments unit.work.segment)
-
--- a node departs: its open units are lost
-abbrev pub with_departure : ℕ → Unit → Unit
-with_departure node unit = cond (is_open_unit unit && (unit.work.node == node)) (with_loss None unit) unit
 
 -- a node installs a topology by which it ceases to read these segments: its running units on them are lost
 abbrev pub with_installation : ℕ → set_of.FinSet nat_cmp → ℕ → Unit → Unit

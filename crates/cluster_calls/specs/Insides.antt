@@ -3,10 +3,10 @@ use Rattle.std.specs.Prelude.{◌≡◌, ◌≤◌, ◌<◌, ◌^◌, ℕ, ◌+�
 use Rattle.std.specs.List.{range_with_len}
 use Rattle.std.specs.FinMap as map_of
 use Rattle.grid_base.specs.declared.limits.TheConstants.{MOST_READ}
-use Rattle.cluster_model.specs.State.{Call, Unit, is_of, is_open_unit, is_running}
+use Rattle.cluster_model.specs.State.{Call, Calling, Unit, is_of, is_open_unit, is_running}
 use Rattle.cluster_model.specs.Topologies.{is_complete}
 use Rattle.cluster_model.specs.Units.{read_by}
-use Rattle.cluster_calls.specs.Calling.{Calling}
+use Rattle.cluster_calls.specs.Listed.{AreRegistered}
 use Rattle.cluster_calls.specs.Parts.{HasParts, has_begun}
 use Rattle.cluster_calls.specs.Rows.{Rows, calls_in}
 use Rattle.cluster_calls.specs.Tallies.{IsTally}
@@ -61,11 +61,13 @@ pub record ArePast (units : List Unit) (rows : Rows) (past : ℕ) : Type 0 where
   pub within : past ≤ length units
   pub over : (i : ℕ) (u : Unit) → slice_get units i ≡ Some u → i < past → is_open_unit u ≡ true → (row : Row) → map_of.get rows u.work.call ≡ Some row → is_some row.call.outcome ≡ true
 
--- segments are few, all is right and booked, the entries read are counted, and the units that are passed over may be
+-- segments are few, all is right and booked, the open units are registered, the entries read are counted, and the units
+-- that are passed over may be
 pub record IsCalls (fields : Inside) : Type 0 where
   pub few_segments : fields.segments ≤ 256
   pub right : AreRight fields.segments fields.units.items fields.table
   pub pieced : ArePieced fields.segments fields.units.items fields.table
+  pub registered : AreRegistered fields.units.items fields.listeners
   pub numbered : length fields.units.items < 2 ^ 32
   pub counted : fields.read ≡ read_by fields.units.items
   pub few : fields.read ≤ MOST_READ

@@ -1,5 +1,6 @@
 pub mod Calling
 pub mod Parts
+pub mod Listed
 pub mod Takings
 pub mod Tallied
 pub mod Tallies

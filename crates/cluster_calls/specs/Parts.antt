@@ -14,8 +14,8 @@ use Rattle.pipeline_split.specs.declared.halves.Remote.{Remote}
 use Rattle.pipeline_split.specs.declared.piece.Piece.{Piece}
 use Rattle.pipeline_split.specs.declared.piece.Piece.TheVariants.{Nothing}
 use Rattle.reduce_cluster.specs.Reduced.{nothing_booked, segments_of, with_share}
-use Rattle.cluster_model.specs.State.{Call, Unit, is_ended, is_lost, is_on, is_open_unit, is_walk, with_loss}
-use Rattle.cluster_calls.specs.Calling.{Calling, call_in, ceases_at}
+use Rattle.cluster_model.specs.State.{Call, Calling, Unit, call_of, is_ended, is_lost, is_on, is_open_unit, is_walk, with_loss}
+use Rattle.cluster_calls.specs.Calling.{ceases_at}
 use Rattle.cluster_calls.specs.declared.parts.Parts.{Parts}
 
 -- the call is a reduction that isn't answered
@@ -57,7 +57,7 @@ part_by units number segment (Some call) = cond (is_parted call) (part_on units 
 
 -- the piece that is booked for the segment, where the call is a reduction that isn't answered
 abbrev pub part_in : Calling → ℕ → ℕ → Option Piece
-part_in calling number segment = part_by calling.units number segment (call_in calling number)
+part_in calling number segment = part_by calling.units number segment (call_of calling number)
 
 -- what is to be booked for the segment of a unit that ended or was lost: what is booked there, with what this unit read behind it
 abbrev pub booking : List Unit → Unit → Call → Option Piece
@@ -70,7 +70,7 @@ booking_by units unit None = None
 booking_by units unit (Some call) = booking units unit call
 
 abbrev pub booking_in : Calling → Unit → Option Piece
-booking_in calling unit = booking_by calling.units unit (call_in calling unit.work.call)
+booking_in calling unit = booking_by calling.units unit (call_of calling unit.work.call)
 
 -- what is to be booked where the node departs: of a unit that is lost by it
 abbrev pub booking_departed : Calling → ℕ → Unit → Option Piece

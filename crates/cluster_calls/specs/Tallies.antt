@@ -4,7 +4,7 @@ use Rattle.std.specs.List.{filter, range_with_len}
 use Rattle.std.specs.FinSet as set_of
 use Rattle.cluster_model.specs.State.{Unit, is_of, is_open_unit}
 use Rattle.cluster_model.specs.Topologies.{is_complete}
-use Rattle.cluster_calls.specs.Calling.{newest_in}
+use Rattle.cluster_model.specs.Commands.{newest_in}
 use Rattle.cluster_calls.specs.Tallied.{Tallied}
 
 -- how many units of the call are open

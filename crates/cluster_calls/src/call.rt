@@ -4,11 +4,11 @@ ghost use Rattle.std.specs.Prelude.{◌≡◌, ◌+◌, ◌<◌, cond, length, S
 ghost use Rattle.std.specs.FinSet as set_of;
 ghost use Rattle.std.specs.List.{range_with_len};
 ghost use Rattle.std.specs.Option.{option_copied};
-ghost use Rattle.cluster_model.specs.Calls.{granted};
+ghost use Rattle.cluster_model.specs.Calls.{granted, new_call};
 ghost use Rattle.cluster_model.specs.State.{is_exact, is_walk};
 ghost use Rattle.cluster_model.specs.Units.{further_items, passing};
 ghost use Rattle.seen_keys.specs.Passed.{all_passed};
-ghost use Rattle.cluster_calls.specs.Calling.{new_call, with_taken};
+ghost use Rattle.cluster_calls.specs.Calling.{with_taken};
 
 use crate::feeding::{entries_behind, items_behind};
 use crate::taken::{Taken, taken_from};

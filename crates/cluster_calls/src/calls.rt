@@ -1,16 +1,17 @@
 //! The calls of a cluster and their units: what is kept, and the questions about it.
 
-ghost use Rattle.std.specs.Prelude.{◌≡◌, ◌+◌, ◌-◌, ◌<◌, ◌≤◌, ◌^◌, true, Some, drop, is_some, length, nat_le, take, unwrap_or};
+ghost use Rattle.std.specs.Prelude.{◌≡◌, ◌+◌, ◌-◌, ◌<◌, ◌≤◌, ◌^◌, true, Some, drop, is_some, length, nat_le, take};
 ghost use Rattle.std.specs.List.{filter, list_all};
 ghost use Rattle.std.specs.Option.{option_copied};
 ghost use Rattle.cluster_model.specs.Answers.{first_of};
-ghost use Rattle.cluster_model.specs.Commands.{is_unanswered};
+ghost use Rattle.cluster_model.specs.Commands.{is_unanswered, newest_unit, open_units};
 ghost use Rattle.cluster_model.specs.State as states;
-ghost use Rattle.cluster_model.specs.State.{is_open_unit};
+ghost use Rattle.cluster_model.specs.State.{call_of, is_open_unit, no_calls, unit_of};
 ghost use Rattle.cluster_model.specs.Topologies.{is_complete};
 ghost use Rattle.cluster_model.specs.Units.{read_by};
 ghost use Rattle.suspect_retry.specs.Rounds.{closed_at};
-ghost use Rattle.cluster_calls.specs.Calling.{AreNumbered, IsRest, NoneWaits, all_complete_in, any_open, call_in, caught_up, incomplete_from, is_waiting, newest_in, no_calls, open_in, round_units, unit_in};
+ghost use Rattle.cluster_model.specs.Calls.{all_complete, has_open};
+ghost use Rattle.cluster_calls.specs.Calling.{AreNumbered, IsRest, NoneWaits, caught_up, incomplete_from, is_waiting, round_units};
 
 mod booking;
 mod losses;
@@ -21,17 +22,20 @@ use crate::call::Call;
 use crate::table::Table;
 use crate::unit::Unit;
 use grid_base::{CallId, SegmentId, TopologyId, UnitId};
-use local_publisher::UnitState;
+use loss_listener::Listeners;
 use std::alloc::Global;
 use std::marker::Model;
+use suspect_retry::closed_at;
 
-/// The calls of a cluster and their units. A unit's number is its place, counted from 1. Of the
-/// first `past` units each is closed, or its call is answered, and stays so.
+/// The calls of a cluster and their units. A unit's number is its place, counted from 1. The open
+/// units, and no other, are registered as listeners at their nodes and segments. Of the first `past`
+/// units each is closed, or its call is answered, and stays so.
 #[derive(Drop)]
 pub struct Calls {
     segments: u16,
     units: Vec<Unit>,
     table: Table,
+    listeners: Listeners,
     read: u64,
     past: usize,
 }
@@ -42,7 +46,7 @@ impl Model for Calls {
     ghost use Rattle.std.specs.Ordering.{nat_cmp};
     ghost use Rattle.cluster_calls.specs.contracts.call.Call as call;
     ghost use Rattle.cluster_calls.specs.contracts.unit.Unit as unit;
-    ghost use Rattle.cluster_calls.specs.Calling.{Calling};
+    ghost use Rattle.cluster_model.specs.State.{Calling};
 
     ghost Value = { Calling };
 
@@ -65,6 +69,7 @@ impl Calls {
             segments,
             units: Vec::new(alloc),
             table: Table::new(alloc),
+            listeners: Listeners::empty(alloc),
             read: 0,
             past: 0,
         }
@@ -72,7 +77,7 @@ impl Calls {
 
     /// The call of that number, where there is one.
     pub fn call(&self, number: CallId) -> Option<&Call>
-        ensures { option_copied result ≡ call_in self.now number }
+        ensures { option_copied result ≡ call_of self.now number }
     {
         match self.table.get(number) {
             None => None,
@@ -99,9 +104,9 @@ impl Calls {
 
     /// The unit of that number, where there is one. Its call is there.
     pub fn unit(&self, number: UnitId) -> Option<&Unit>
-        ensures unit { option_copied result ≡ unit_in self.now.units number }
-        ensures within { (unit : states.Unit) → unit_in self.now.units number ≡ Some unit → unit.work.segment < self.now.segments }
-        ensures called { (unit : states.Unit) → unit_in self.now.units number ≡ Some unit → is_some (call_in self.now unit.work.call) ≡ true }
+        ensures unit { option_copied result ≡ unit_of self.now number }
+        ensures within { (unit : states.Unit) → unit_of self.now number ≡ Some unit → unit.work.segment < self.now.segments }
+        ensures called { (unit : states.Unit) → unit_of self.now number ≡ Some unit → is_some (call_of self.now unit.work.call) ≡ true }
     {
         let units = self.units.as_slice();
         if number.number() == 0 {
@@ -113,8 +118,8 @@ impl Calls {
     /// The units of the call's last round, by ascending segment. The open ones among them are all
     /// open units of the call.
     pub fn last_round(&self, number: CallId) -> &[Unit]
-        ensures units { (call : states.Call) → call_in self.now number ≡ Some call → result.now ≡ round_units self.now.units call }
-        ensures unended { filter is_open_unit result.now ≡ open_in self.now number }
+        ensures units { (call : states.Call) → call_of self.now number ≡ Some call → result.now ≡ round_units self.now.units call }
+        ensures unended { filter is_open_unit result.now ≡ open_units self.now number }
     {
         match self.table.get(number) {
             None => &[],
@@ -128,7 +133,7 @@ impl Calls {
     /// The units of the call's last round, by ascending segment, without some of the first ones.
     /// Where the call isn't answered, none of those is open.
     pub fn open_round(&self, number: CallId) -> &[Unit]
-        ensures { is_unanswered (call_in self.now number) ≡ true → filter is_open_unit result.now ≡ open_in self.now number }
+        ensures { is_unanswered (call_of self.now number) ≡ true → filter is_open_unit result.now ≡ open_units self.now number }
     {
         let round = self.last_round(number);
         let Some(first) = round.first() else {
@@ -148,7 +153,7 @@ impl Calls {
 
     /// Whether a unit of the call is open.
     pub fn has_open(&self, number: CallId) -> bool
-        ensures { result ≡ any_open self.now.units number }
+        ensures { result ≡ has_open self.now number }
     {
         match self.table.get(number) {
             None => false,
@@ -171,7 +176,7 @@ impl Calls {
 
     /// Whether every segment is complete for the call.
     pub fn all_complete(&self, number: CallId) -> bool
-        ensures { result ≡ all_complete_in self.now number }
+        ensures { result ≡ all_complete self.now number }
     {
         match self.table.get(number) {
             None => self.segments == 0,
@@ -194,7 +199,7 @@ impl Calls {
 
     /// The newest unit of the call on the segment, where there is one.
     pub fn newest(&self, number: CallId, segment: SegmentId) -> Option<&Unit>
-        ensures { option_copied result ≡ newest_in self.now.units number segment }
+        ensures { option_copied result ≡ newest_unit self.now number segment }
     {
         if segment.number() >= self.segments {
             return None;
@@ -208,7 +213,7 @@ impl Calls {
     /// Whether the topology with the number `installed` isn't older than any at which a unit of the
     /// call's last round was refused or was lost by an installation.
     pub fn has_caught_up(&self, number: CallId, installed: TopologyId) -> bool
-        ensures { (call : states.Call) → call_in self.now number ≡ Some call → result ≡ caught_up self.now.units call installed }
+        ensures { (call : states.Call) → call_of self.now number ≡ Some call → result ≡ caught_up self.now.units call installed }
     {
         are_closed_by(self.last_round(number), installed)
     }
@@ -287,28 +292,4 @@ fn place_of(number: UnitId) -> usize
     ensures { result ≡ number - 1 }
 {
     number.number().saturating_sub(1) as usize
-}
-
-/// The topology at which a unit was refused or was lost by an installation, and 0 for any other
-/// unit.
-fn closed_at(state: UnitState) -> u32
-    ensures { result ≡ closed_at state }
-{
-    match state {
-        UnitState::Refused(at) => at.number(),
-        UnitState::Lost(at) => lost_at(at),
-        UnitState::Asked => 0,
-        UnitState::Running => 0,
-        UnitState::Ended => 0,
-    }
-}
-
-/// The topology by whose installation a unit was lost, and 0 where it was lost by a departure.
-fn lost_at(at: Option<TopologyId>) -> u32
-    ensures { result ≡ unwrap_or at 0 }
-{
-    match at {
-        Some(at) => at.number(),
-        None => 0,
-    }
 }

@@ -102,6 +102,13 @@ impl Unit {
         matches!(self.work.state, UnitState::Ended)
     }
 
+    /// The number.
+    pub fn id(&self) -> UnitId
+        ensures { result ≡ self.now.work.id }
+    {
+        self.work.id
+    }
+
     /// The call for which the unit asks.
     pub fn call(&self) -> CallId
         ensures { result ≡ self.now.work.call }

@@ -11,26 +11,26 @@ use Rattle.cluster_model.specs.Writes.{can_change, can_write, is_deadline, is_of
 use Rattle.cluster_core.specs.Lifespans.{is_longer}
 
 -- of a call that isn't answered
-pub driven : (st : State) (number : ℕ) (a b c d : Option Event) → is_unanswered (call_of st number) ≡ true → a ≡ answer_event st number → b ≡ first_some (unit_event st) (open_units st number)
-    → c ≡ round_event st number → d ≡ advance_event st → or_else a (or_else b (or_else c d)) ≡ drive_event st number
+pub driven : (st : State) (number : ℕ) (a b c d : Option Event) → is_unanswered (call_of st.calling number) ≡ true → a ≡ answer_event st number → b ≡ first_some (unit_event st) (open_units st.calling number)
+    → c ≡ round_event st number → d ≡ advance_event st.holding → or_else a (or_else b (or_else c d)) ≡ drive_event st number
 unfolding drive_event
 driven st number a b c d unanswered answer unit round topology =
     (λ i. or_else (answer i) (or_else (unit i) (or_else (round i) (topology i))))
     ∙ ap
-    (λ t. if t then or_else (answer_event st number) (or_else (first_some (unit_event st) (open_units st number)) (or_else (round_event st number) (advance_event st))) else None)
+    (λ t. if t then or_else (answer_event st number) (or_else (first_some (unit_event st) (open_units st.calling number)) (or_else (round_event st number) (advance_event st.holding))) else None)
     (sym unanswered)
 
 -- of a call that is answered or isn't there
-pub undriven : (st : State) (number : ℕ) → is_unanswered (call_of st number) ≡ false → None ≡ drive_event st number
+pub undriven : (st : State) (number : ℕ) → is_unanswered (call_of st.calling number) ≡ false → None ≡ drive_event st number
 unfolding drive_event
 undriven st number answered =
     ap
-    (λ t. if t then or_else (answer_event st number) (or_else (first_some (unit_event st) (open_units st number)) (or_else (round_event st number) (advance_event st))) else None)
+    (λ t. if t then or_else (answer_event st number) (or_else (first_some (unit_event st) (open_units st.calling number)) (or_else (round_event st number) (advance_event st.holding))) else None)
     (sym answered)
 
 -- at a node
-pub served : (st : State) (node : ℕ) (a b c d : Option Event) → a ≡ install_event st node → b ≡ first_some (land_event st node) (segments_of st)
-    → c ≡ first_some (copy_event st node) (segments_of st) → d ≡ first_some (served_event st) (units_at st node) → or_else a (or_else b (or_else c d)) ≡ serve_event st node
+pub served : (st : State) (node : ℕ) (a b c d : Option Event) → a ≡ install_event st.holding node → b ≡ first_some (land_event st.holding node) (segments_of st.holding)
+    → c ≡ first_some (copy_event st.holding node) (segments_of st.holding) → d ≡ first_some (served_event st) (units_at st.calling node) → or_else a (or_else b (or_else c d)) ≡ serve_event st node
 unfolding serve_event
 served st node a b c d installation landing copy unit = λ i. or_else (installation i) (or_else (landing i) (or_else (copy i) (unit i)))
 
@@ -54,7 +54,7 @@ all_fail false b c e = refl
 
 -- and so its write may not happen
 pub longer_refused : (st : State) (by_ node : ℕ) (key : List ℕ) (value : Datum) (lifespan : Option ℕ) → is_longer lifespan ≡ true →
-    can_write st (record { by = by_; node = node; key = key; value = value; until = option_map (λ ticks. st.copying.clock + ticks) lifespan }) ≡ false
+    can_write st.holding (record { by = by_; node = node; key = key; value = value; until = option_map (λ ticks. st.holding.copying.clock + ticks) lifespan }) ≡ false
 unfolding can_write
 longer_refused st by_ node key value lifespan longer =
-    all_fail (can_change st node key) (is_of_kind st.config.values value) (is_deadline st.copying.clock (option_map (λ ticks. st.copying.clock + ticks) lifespan)) (too_long st.copying.clock lifespan longer)
+    all_fail (can_change st.holding node key) (is_of_kind st.holding.config.values value) (is_deadline st.holding.copying.clock (option_map (λ ticks. st.holding.copying.clock + ticks) lifespan)) (too_long st.holding.copying.clock lifespan longer)

@@ -5,8 +5,7 @@ use Rattle.local_publisher.specs.Stages.{is_open}
 use Rattle.local_publisher.specs.declared.unit_state.UnitState.{UnitState}
 use Rattle.local_publisher.specs.declared.unit_state.UnitState.TheVariants.{Asked, Running, Refused, Lost, Ended}
 use Rattle.cluster_model.specs.State.{Unit, is_ended, is_on, is_open_unit, with_loss}
-use Rattle.cluster_model.specs.Topologies.{all_noted, is_complete, notes_losses}
-use Rattle.cluster_calls.specs.Calling.{with_departure}
+use Rattle.cluster_model.specs.Topologies.{all_noted, is_complete, notes_losses, with_departure}
 use Rattle.cluster_calls.proofs.BothLaws.{and_left}
 
 -- a unit that is open hasn't ended

@@ -1,7 +1,7 @@
 pub mod SetFacts
 pub mod LostFacts
-pub mod StoreFacts
 pub mod RunFacts
+pub mod Reached
 pub mod Rows
 pub mod UnitSegments
 pub mod StoreRows

@@ -1,11 +1,11 @@
 -- The open units of a call, and which units are found by their own numbers.
-use Rattle.std.proofs.Common.{◌≡◌, ℕ, ◌<◌, Bool, true, false, cond, ◌&&◌, List, [], ◌∷◌, drop, filter, length, get_or, Some, refl, sym, ap, subst, ◌∙◌}
+use Rattle.std.proofs.Common.{◌≡◌, ℕ, ◌<◌, Bool, true, false, cond, ◌&&◌, List, [], ◌∷◌, drop, filter, length, get_or, Some, refl, sym, ap, subst}
 use Rattle.std.proofs.lemmas.List.Elements.{All-append, All-cons, All-drop, All-filter, All-head, All-nil, All-tail}
 use Rattle.std.proofs.lemmas.Option.{slice_get-get_or}
 use Rattle.std.specs.List.{All, flat_map, range_with_len}
 use Rattle.cluster_model.specs.Commands.{open_units}
-use Rattle.cluster_model.specs.State.{State, Unit, is_on, is_open_unit}
-use Rattle.cluster_calls.specs.Calling.{AreNumbered, open_in, unit_in}
+use Rattle.cluster_model.specs.State.{State, Unit, is_on, is_open_unit, unit_in}
+use Rattle.cluster_calls.specs.Calling.{AreNumbered}
 use Rattle.cluster_core.specs.Insides.{IsCore, state_of}
 use Rattle.cluster_core.specs.declared.cluster.Core.TheInside.{Inside}
 use Rattle.cluster_core.proofs.UnitPlaces.{found_by_number}
@@ -50,7 +50,5 @@ open_found units call segments xs numbers are i u within at =
     subst (λ (x : Unit). is_open_unit x ≡ true → IsFound units x) (sym at) (all_passing (IsFound units) is_open_unit xs found i u within)
 
 -- the open units of a call in a core
-pub core_opens : (fields : Inside) (st : State) (call : ℕ) → IsCore fields → state_of fields ≡ st → open_in fields.calls call ≡ open_units st call
-core_opens fields st call h view =
-    (λ i. flat_map (λ segment. filter (λ unit. is_on call segment unit && is_open_unit unit) fields.calls.units) (range_with_len 0 (h.segments i)))
-    ∙ ap (λ s. open_units s call) view
+pub core_opens : (fields : Inside) (st : State) (call : ℕ) → IsCore fields → state_of fields ≡ st → open_units fields.calls call ≡ open_units st.calling call
+core_opens fields st call h view = ap (λ (s : State). open_units s.calling call) view

@@ -8,7 +8,7 @@ use Rattle.cluster_calls.proofs.ListLaws.{same_some}
 use Rattle.cluster_core.specs.Parts.{piece_by, piece_for, piece_of}
 
 -- the piece of a unit whose call is there is that of what it read
-pub piece_told : (st : State) (number : ℕ) (made : Piece) → piece_of st number ≡ Some made → (unit : Unit) (call : Call) → unit_of st number ≡ Some unit → call_of st unit.work.call ≡ Some call
+pub piece_told : (st : State) (number : ℕ) (made : Piece) → piece_of st number ≡ Some made → (unit : Unit) (call : Call) → unit_of st.calling number ≡ Some unit → call_of st.calling unit.work.call ≡ Some call
     → made ≡ piece (remote_of call.request.pipeline) unit.work.entries
 piece_told st number made is unit call there called = by (is_walk call.request) (sym (ap (piece_by st) there ∙ ap (piece_for unit) called) ∙ is)
   where

@@ -9,7 +9,7 @@ use Rattle.topology_coord.specs.Coordination.{installed_id, lives}
 use Rattle.cluster_model.specs.Commands.{begin_event, done_event, fetch_event, first_some, is_unanswered, or_else, scan_event, served_event, units_at}
 use Rattle.cluster_model.specs.State.{Call, State, Unit, call_of, goes_on, is_asked, is_open_unit, is_running, unit_of}
 use Rattle.cluster_model.specs.Units.{next_batch, read_by, reads, walks}
-use Rattle.cluster_laws.proofs.UnitPlaces.{running_open}
+use Rattle.cluster_laws.proofs.units.UnitPlaces.{running_open}
 use Rattle.cluster_calls.specs.Calling.{IsRest}
 use Rattle.cluster_core.specs.Insides.{IsCore, state_of}
 use Rattle.cluster_core.specs.Parts.{is_ready}
@@ -39,24 +39,24 @@ find-drop p (suc n) (x ∷ xs) h =
     ∙ ap (λ b. cond b (Some x) (find p xs)) (sym (h 0 x refl (omega arith)))
 
 -- an answered call doesn't go on
-stopped : (st : State) (found : Option Call) → is_unanswered found ≡ false → goes_on st found ≡ false
+stopped : (st : State) (found : Option Call) → is_unanswered found ≡ false → goes_on st.holding found ≡ false
 stopped st None h = refl
-stopped st (Some call) h = ap (λ b. b && lives st.coord call.originator) h
+stopped st (Some call) h = ap (λ b. b && lives st.holding.coord call.originator) h
 
 -- of a unit whose call doesn't go on nothing is read
-unread : (st : State) (walk : Bool) (unit : Unit) → goes_on st (call_of st unit.work.call) ≡ false → batch_now st walk unit ≡ None
+unread : (st : State) (walk : Bool) (unit : Unit) → goes_on st.holding (call_of st.calling unit.work.call) ≡ false → batch_now st walk unit ≡ None
 unread st walk unit over =
     ap
     (λ b.
-    if (b && (beq walk (walks (call_of st unit.work.call)) && (is_running unit.work.state && (not unit.work.last && is_none unit.flying)))) && nat_le (read_by st.units + length (next_batch st unit).entries) MOST_READ
+    if (b && (beq walk (walks (call_of st.calling unit.work.call)) && (is_running unit.work.state && (not unit.work.last && is_none unit.flying)))) && nat_le (read_by st.calling.units + length (next_batch st unit).entries) MOST_READ
     then Some (next_batch st unit)
     else None) over
 
 -- and it has no event
-unserved : (st : State) (unit : Unit) → unit_of st unit.work.id ≡ Some unit → goes_on st (call_of st unit.work.call) ≡ false → served_event st unit ≡ None
+unserved : (st : State) (unit : Unit) → unit_of st.calling unit.work.id ≡ Some unit → goes_on st.holding (call_of st.calling unit.work.call) ≡ false → served_event st unit ≡ None
 unserved st unit there over =
-    (λ i. or_else (if walks (call_of st unit.work.call) then done i else None) (or_else (scan i) (or_else (fetch i) (begin_ i))))
-    ∙ nothing (walks (call_of st unit.work.call))
+    (λ i. or_else (if walks (call_of st.calling unit.work.call) then done i else None) (or_else (scan i) (or_else (fetch i) (begin_ i))))
+    ∙ nothing (walks (call_of st.calling unit.work.call))
   where
     done : done_event st unit ≡ None
     done = sym (done_when st unit false there (sym (ap (λ b. b && (is_running unit.work.state && (unit.work.last && is_none unit.flying))) over)))
@@ -68,7 +68,7 @@ unserved st unit there over =
     fetch = sym (fetch_is st unit there) ∙ ap (fetch_with unit) (unread st true unit over)
 
     begin_ : begin_event st unit ≡ None
-    begin_ = sym (begin_when st unit (reads st unit) false there refl (sym (ap (λ b. b && (is_asked unit.work.state && (nat_le unit.work.asked_at (installed_id st.coord unit.work.node) && beq (reads st unit) (reads st unit)))) over)))
+    begin_ = sym (begin_when st unit (reads st.holding unit) false there refl (sym (ap (λ b. b && (is_asked unit.work.state && (nat_le unit.work.asked_at (installed_id st.holding.coord unit.work.node) && beq (reads st.holding unit) (reads st.holding unit)))) over)))
 
     nothing : (b : Bool) → ◌≡◌ {A = Option Event} (or_else (if b then None else None) None) None
     nothing true = refl
@@ -81,7 +81,7 @@ open_answered false b c h g = absurd (cc)
 
 -- the units that are left over serve as all do
 pub rest_serves : (fields : Inside) (st : State) (node : ℕ) (units : List Unit) → IsCore fields → state_of fields ≡ st → IsRest fields.calls units
-    → first_some (served_event st) (filter (λ (unit : Unit). is_open_unit unit && (unit.work.node == node)) units) ≡ first_some (served_event st) (units_at st node)
+    → first_some (served_event st) (filter (λ (unit : Unit). is_open_unit unit && (unit.work.node == node)) units) ≡ first_some (served_event st) (units_at st.calling node)
 rest_serves fields st node units h view rest =
     let us = fields.calls.units in
     let was : State = state_of fields in
@@ -90,8 +90,8 @@ rest_serves fields st node units h view rest =
     ∙ ap (λ (xs : List Unit). first_some (served_event was) (filter p xs)) rest.rest
     ∙ first-drop (served_event was) p rest.skipped us (λ i u at low passes.
     unserved was u (found_by_number us i u (core_numbered fields was h refl) at)
-    (stopped was (call_of was u.work.call) (open_answered (is_open_unit u) (is_unanswered (call_of was u.work.call)) (u.work.node == node) (rest.none i u at low) passes)))
-    ∙ ap (λ (s : State). first_some (served_event s) (units_at s node)) view
+    (stopped was (call_of was.calling u.work.call) (open_answered (is_open_unit u) (is_unanswered (call_of was.calling u.work.call)) (u.work.node == node) (rest.none i u at low) passes)))
+    ∙ ap (λ (s : State). first_some (served_event s) (units_at s.calling node)) view
 
 -- a unit that doesn't wait may not end
 closed_ends : (goes runs rest open_ waits : Bool) → (open_ && waits) ≡ false → (runs ≡ true → open_ ≡ true) → (waits ≡ false → goes ≡ false) → (goes && (runs && rest)) ≡ false
@@ -108,13 +108,13 @@ neither true false c h = refl
 neither false b c h = refl
 
 -- the first of them that is ready is the first of all
-pub rest_ready : (fields : Inside) (st : State) (node : ℕ) (units : List Unit) → state_of fields ≡ st → IsRest fields.calls units → find (is_ready st node) units ≡ find (is_ready st node) st.units
+pub rest_ready : (fields : Inside) (st : State) (node : ℕ) (units : List Unit) → state_of fields ≡ st → IsRest fields.calls units → find (is_ready st node) units ≡ find (is_ready st node) st.calling.units
 rest_ready fields st node units view rest =
     let was : State = state_of fields in
     ap (λ (s : State). find (is_ready s node) units) (sym view)
     ∙ ap (find (is_ready was node)) rest.rest
     ∙ find-drop (is_ready was node) rest.skipped fields.calls.units (λ i u at low.
-    neither (u.work.node == node) (not (walks (call_of was u.work.call))) (goes_on was (call_of was u.work.call) && (is_running u.work.state && (u.work.last && is_none u.flying)))
-    (closed_ends (goes_on was (call_of was u.work.call)) (is_running u.work.state) (u.work.last && is_none u.flying) (is_open_unit u) (is_unanswered (call_of was u.work.call)) (rest.none i u at low)
-    (running_open u.work.state) (stopped was (call_of was u.work.call))))
-    ∙ ap (λ (s : State). find (is_ready s node) s.units) view
+    neither (u.work.node == node) (not (walks (call_of was.calling u.work.call))) (goes_on was.holding (call_of was.calling u.work.call) && (is_running u.work.state && (u.work.last && is_none u.flying)))
+    (closed_ends (goes_on was.holding (call_of was.calling u.work.call)) (is_running u.work.state) (u.work.last && is_none u.flying) (is_open_unit u) (is_unanswered (call_of was.calling u.work.call)) (rest.none i u at low)
+    (running_open u.work.state) (stopped was (call_of was.calling u.work.call))))
+    ∙ ap (λ (s : State). find (is_ready s node) s.calling.units) view

@@ -3,7 +3,7 @@ use Rattle.std.proofs.Common.{◌≡◌, ℕ, suc, ◌+◌, ◌-◌, ◌≤◌, 
 use Rattle.std.specs.List.{list_all, range_with_len}
 use Rattle.std.specs.Prelude.{unwrap_or}
 use Rattle.grid_event.specs.declared.call_events.Ask.{Ask}
-use Rattle.cluster_calls.specs.Calling.{all_complete_in, incomplete_from, incomplete_in}
+use Rattle.cluster_calls.specs.Calling.{incomplete_from}
 use Rattle.cluster_model.specs.Answers.{first_of}
 use Rattle.cluster_model.specs.Calls.{all_complete, asks_from, first_reader, incomplete}
 use Rattle.cluster_model.specs.State.{State, Unit}
@@ -40,66 +40,66 @@ rest_none units call s n past =
 
 -- the incomplete segments of a call from a segment on
 abbrev pub rest_of : State → ℕ → ℕ → List ℕ
-rest_of st call s = incomplete_from s (st.config.segments - s) st.units call
+rest_of st call s = incomplete_from s (st.calling.segments - s) st.calling.units call
 
 -- from the first one on they are all
-pub rest_whole : (st : State) (call : ℕ) → rest_of st call 0 ≡ incomplete st call
+pub rest_whole : (st : State) (call : ℕ) → rest_of st call 0 ≡ incomplete st.calling call
 rest_whole st call =
-    let all : st.config.segments - 0 ≡ st.config.segments = omega arith in
-    ap (λ k. incomplete_from 0 k st.units call) all
+    let all : st.calling.segments - 0 ≡ st.calling.segments = omega arith in
+    ap (λ k. incomplete_from 0 k st.calling.units call) all
 
-module _ (st : State) (originator call s : ℕ) (within : s < st.config.segments) where
+module _ (st : State) (originator call s : ℕ) (within : s < st.calling.segments) where
   -- a segment without a live reader ends the search
-  pub readers_end : is_complete st.units call s ≡ false → has_reader st originator s ≡ false → list_all (has_reader st originator) (rest_of st call s) ≡ false
+  pub readers_end : is_complete st.calling.units call s ≡ false → has_reader st.holding originator s ≡ false → list_all (has_reader st.holding originator) (rest_of st call s) ≡ false
   readers_end lacks none =
-      ap (list_all (has_reader st originator)) (rest_incomplete st.units call s st.config.segments within lacks)
-      ∙ ap (λ b. b && list_all (has_reader st originator) (rest_of st call (s + 1))) none
+      ap (list_all (has_reader st.holding originator)) (rest_incomplete st.calling.units call s st.calling.segments within lacks)
+      ∙ ap (λ b. b && list_all (has_reader st.holding originator) (rest_of st call (s + 1))) none
 
   -- one with a live reader is passed
-  pub readers_on : is_complete st.units call s ≡ false → has_reader st originator s ≡ true
-      → list_all (has_reader st originator) (rest_of st call s) ≡ list_all (has_reader st originator) (rest_of st call (s + 1))
+  pub readers_on : is_complete st.calling.units call s ≡ false → has_reader st.holding originator s ≡ true
+      → list_all (has_reader st.holding originator) (rest_of st call s) ≡ list_all (has_reader st.holding originator) (rest_of st call (s + 1))
   readers_on lacks some =
-      ap (list_all (has_reader st originator)) (rest_incomplete st.units call s st.config.segments within lacks)
-      ∙ ap (λ b. b && list_all (has_reader st originator) (rest_of st call (s + 1))) some
+      ap (list_all (has_reader st.holding originator)) (rest_incomplete st.calling.units call s st.calling.segments within lacks)
+      ∙ ap (λ b. b && list_all (has_reader st.holding originator) (rest_of st call (s + 1))) some
 
   -- and so is a complete one
-  pub readers_past : is_complete st.units call s ≡ true
-      → list_all (has_reader st originator) (rest_of st call s) ≡ list_all (has_reader st originator) (rest_of st call (s + 1))
-  readers_past has = ap (list_all (has_reader st originator)) (rest_complete st.units call s st.config.segments within has)
+  pub readers_past : is_complete st.calling.units call s ≡ true
+      → list_all (has_reader st.holding originator) (rest_of st call s) ≡ list_all (has_reader st.holding originator) (rest_of st call (s + 1))
+  readers_past has = ap (list_all (has_reader st.holding originator)) (rest_complete st.calling.units call s st.calling.segments within has)
 
   -- a complete segment isn't asked for
-  pub asks_past : (u : ℕ) (asks : List Ask) → is_complete st.units call s ≡ true
-      → asks ++ asks_from st originator u (rest_of st call (s + 1)) ≡ asks ++ asks_from st originator u (rest_of st call s)
-  asks_past u asks has = ap (λ segments. asks ++ asks_from st originator u segments) (sym (rest_complete st.units call s st.config.segments within has))
+  pub asks_past : (u : ℕ) (asks : List Ask) → is_complete st.calling.units call s ≡ true
+      → asks ++ asks_from st.holding originator u (rest_of st call (s + 1)) ≡ asks ++ asks_from st.holding originator u (rest_of st call s)
+  asks_past u asks has = ap (λ segments. asks ++ asks_from st.holding originator u segments) (sym (rest_complete st.calling.units call s st.calling.segments within has))
 
   -- an incomplete one is asked for next
-  pub asks_on : (u : ℕ) (asks : List Ask) → is_complete st.units call s ≡ false
-      → (asks ++ record { unit = u; segment = s; node = unwrap_or (first_reader st originator s) 0 } ∷ []) ++ asks_from st originator (u + 1) (rest_of st call (s + 1))
-      ≡ asks ++ asks_from st originator u (rest_of st call s)
+  pub asks_on : (u : ℕ) (asks : List Ask) → is_complete st.calling.units call s ≡ false
+      → (asks ++ record { unit = u; segment = s; node = unwrap_or (first_reader st.holding originator s) 0 } ∷ []) ++ asks_from st.holding originator (u + 1) (rest_of st call (s + 1))
+      ≡ asks ++ asks_from st.holding originator u (rest_of st call s)
   asks_on u asks lacks =
-      append_assoc asks (record { unit = u; segment = s; node = unwrap_or (first_reader st originator s) 0 } ∷ []) (asks_from st originator (u + 1) (rest_of st call (s + 1)))
-      ∙ ap (λ segments. asks ++ asks_from st originator u segments) (sym (rest_incomplete st.units call s st.config.segments within lacks))
+      append_assoc asks (record { unit = u; segment = s; node = unwrap_or (first_reader st.holding originator s) 0 } ∷ []) (asks_from st.holding originator (u + 1) (rest_of st call (s + 1)))
+      ∙ ap (λ segments. asks ++ asks_from st.holding originator u segments) (sym (rest_incomplete st.calling.units call s st.calling.segments within lacks))
 
 -- past the segments all have live readers
-pub readers_all : (st : State) (originator call s : ℕ) → st.config.segments ≤ s → list_all (has_reader st originator) (rest_of st call s) ≡ true
-readers_all st originator call s past = ap (list_all (has_reader st originator)) (rest_none st.units call s st.config.segments past)
+pub readers_all : (st : State) (originator call s : ℕ) → st.calling.segments ≤ s → list_all (has_reader st.holding originator) (rest_of st call s) ≡ true
+readers_all st originator call s past = ap (list_all (has_reader st.holding originator)) (rest_none st.calling.units call s st.calling.segments past)
 
 -- and all are asked for
-pub asks_all : (st : State) (originator call s u : ℕ) (asks : List Ask) → st.config.segments ≤ s → asks ++ asks_from st originator u (rest_of st call s) ≡ asks
+pub asks_all : (st : State) (originator call s u : ℕ) (asks : List Ask) → st.calling.segments ≤ s → asks ++ asks_from st.holding originator u (rest_of st call s) ≡ asks
 asks_all st originator call s u asks past =
-    ap (λ segments. asks ++ asks_from st originator u segments) (rest_none st.units call s st.config.segments past) ∙ append-nil asks
+    ap (λ segments. asks ++ asks_from st.holding originator u segments) (rest_none st.calling.units call s st.calling.segments past) ∙ append-nil asks
 
 -- what the calls of a core tell of their segments is told of its state
 module _ (fields : Inside) (st : State) (h : IsCore fields) (view : state_of fields ≡ st) where
-  pub incomplete_seen : (call : ℕ) → incomplete_in fields.calls call ≡ incomplete st call
+  pub incomplete_seen : (call : ℕ) → incomplete fields.calls call ≡ incomplete st.calling call
   incomplete_seen call =
-      ap (λ n. incomplete_from 0 n fields.calls.units call) h.segments ∙ ap (λ (s : State). incomplete s call) view
+      ap (λ (s : State). incomplete s.calling call) view
 
-  pub first_seen : (call : ℕ) → first_of (incomplete_from 0 (fields.calls.segments - 0) fields.calls.units call) ≡ first_of (incomplete st call)
+  pub first_seen : (call : ℕ) → first_of (incomplete_from 0 (fields.calls.segments - 0) fields.calls.units call) ≡ first_of (incomplete st.calling call)
   first_seen call =
       let all : fields.calls.segments - 0 ≡ fields.calls.segments = omega arith in
       ap (λ n. first_of (incomplete_from 0 n fields.calls.units call)) all ∙ ap first_of (incomplete_seen call)
 
-  pub all_seen : (call : ℕ) → all_complete_in fields.calls call ≡ all_complete st call
+  pub all_seen : (call : ℕ) → all_complete fields.calls call ≡ all_complete st.calling call
   all_seen call =
-      ap (λ n. list_all (is_complete fields.calls.units call) (range_with_len 0 n)) h.segments ∙ ap (λ (s : State). all_complete s call) view
+      ap (λ (s : State). all_complete s.calling call) view

@@ -1,3 +1,4 @@
+pub mod Runs
 pub mod Insides
 pub mod Reading
 pub mod Taking

@@ -12,7 +12,7 @@ use Rattle.cluster_calls.specs.Parts.{part_by}
 -- units on the segment read, in the order of asking, that ended, or that were lost where the guarantee keeps what lost
 -- units read. Where there is no such unit there is none
 abbrev pub part_of : State → ℕ → ℕ → Option Piece
-part_of st call segment = part_by st.units call segment (call_of st call)
+part_of st call segment = part_by st.calling.units call segment (call_of st.calling call)
 
 -- the piece of what the unit read, where its call is a reduction
 abbrev pub piece_for : Unit → Option Call → Option Piece
@@ -22,17 +22,17 @@ piece_for unit (Some call) =
 
 abbrev pub piece_by : State → Option Unit → Option Piece
 piece_by st None = None
-piece_by st (Some unit) = piece_for unit (call_of st unit.work.call)
+piece_by st (Some unit) = piece_for unit (call_of st.calling unit.work.call)
 
 -- the piece of what the unit of that number read, where it is there and its call is a reduction
 abbrev pub piece_of : State → ℕ → Option Piece
-piece_of st number = piece_by st (unit_of st number)
+piece_of st number = piece_by st (unit_of st.calling number)
 
 -- the unit is at the node, its call is a reduction, and it may end
 abbrev pub is_ready : State → ℕ → Unit → Bool
 is_ready st node unit =
-    (unit.work.node == node) && (not (walks (call_of st unit.work.call)) && can_end_unit st (Some unit))
+    (unit.work.node == node) && (not (walks (call_of st.calling unit.work.call)) && can_end_unit st (Some unit))
 
 -- the least unit of a reduction at the node that may end, where there is one
 abbrev pub ready_at : State → ℕ → Option ℕ
-ready_at st node = option_map (λ (unit : Unit). unit.work.id) (find (is_ready st node) st.units)
+ready_at st node = option_map (λ (unit : Unit). unit.work.id) (find (is_ready st node) st.calling.units)

@@ -14,4 +14,4 @@ taking_of unit _ _ = None
 -- what a call that goes on takes of its unit now
 abbrev pub taking_now : State → Unit → Option Taking
 taking_now st unit =
-    if goes_on st (call_of st unit.work.call) then taking_of unit (call_of st unit.work.call) unit.flying else None
+    if goes_on st.holding (call_of st.calling unit.work.call) then taking_of unit (call_of st.calling unit.work.call) unit.flying else None

@@ -70,28 +70,28 @@ impl Core {
 
     /// The live nodes.
     pub fn live(&self) -> NodeSet
-        ensures { (n : ℕ) → set_of.contains result n ≡ lives self.now.coord n }
+        ensures { (n : ℕ) → set_of.contains result n ≡ lives self.now.holding.coord n }
     {
         self.store.live()
     }
 
     /// The unit of that number. None comes exactly where there is none.
     pub fn unit(&self, number: UnitId) -> Option<&Unit>
-        ensures { option_copied result ≡ unit_of self.now number }
+        ensures { option_copied result ≡ unit_of self.now.calling number }
     {
         self.calls.unit(number)
     }
 
     /// The call of that number. None comes exactly where there is none.
     pub fn call(&self, number: CallId) -> Option<&Call>
-        ensures { option_copied result ≡ call_of self.now number }
+        ensures { option_copied result ≡ call_of self.now.calling number }
     {
         self.calls.call(number)
     }
 
     /// The pipeline of the call of that number. None comes exactly where there is none.
     pub fn pipeline(&self, number: CallId) -> Option<&Pipeline>
-        ensures { option_copied result ≡ option_map (λ call. call.request.pipeline) (call_of self.now number) }
+        ensures { option_copied result ≡ option_map (λ call. call.request.pipeline) (call_of self.now.calling number) }
     {
         match self.call(number) {
             None => None,
@@ -101,7 +101,7 @@ impl Core {
 
     /// Whether the call is there and unanswered, and its originator is live.
     pub(crate) fn goes_on(&self, number: CallId) -> bool
-        ensures { result ≡ goes_on self.now (call_of self.now number) }
+        ensures { result ≡ goes_on self.now.holding (call_of self.now.calling number) }
     {
         match self.call(number) {
             None => false,
@@ -111,7 +111,7 @@ impl Core {
 
     /// Whether the call is unanswered, and its originator is live.
     pub(crate) fn call_goes_on(&self, call: &Call) -> bool
-        ensures { result ≡ goes_on self.now (Some call.now) }
+        ensures { result ≡ goes_on self.now.holding (Some call.now) }
     {
         if !call.is_unanswered() {
             return false;
@@ -121,7 +121,7 @@ impl Core {
 
     /// Whether the call was made and isn't answered.
     pub(crate) fn is_unanswered(&self, number: CallId) -> bool
-        ensures { result ≡ is_unanswered (call_of self.now number) }
+        ensures { result ≡ is_unanswered (call_of self.now.calling number) }
     {
         match self.call(number) {
             None => false,
@@ -131,7 +131,7 @@ impl Core {
 
     /// The number of the topology that the node has installed, and 0 where the node isn't live.
     pub(crate) fn installed_id(&self, node: NodeId) -> TopologyId
-        ensures { result ≡ installed_id self.now.coord node }
+        ensures { result ≡ installed_id self.now.holding.coord node }
     {
         self.store.coord().installed_id(node)
     }

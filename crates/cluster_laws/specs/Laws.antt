@@ -38,7 +38,7 @@ use Rattle.cluster_model.specs.Units.{taken_entries}
 -- reads a segment by the topology that it has installed is such a holder. Live, newest, installed and the map are told by the events
 pub record HasCopies (config : Config) (past : List Event) (st : State) : Type 0 where
   pub complete : (node segment : ℕ) → is_live config past node ≡ true → among node (holders (newest_topology config past) segment) ≡ true
-      → (key : List ℕ) → copy_at st.copying.cells node segment key ≡ contents_of config past segment key
+      → (key : List ℕ) → copy_at st.holding.copying.cells node segment key ≡ contents_of config past segment key
   pub readers : (node segment : ℕ) → is_live config past node ≡ true → among node (read_owners (installed_by config past node) segment) ≡ true
       → among node (holders (newest_topology config past) segment) ≡ true
 
@@ -50,7 +50,7 @@ CopiesHold = (config : Config) (events : List Event) → is_config config ≡ tr
 -- the events tell what the cluster has, and the topology that each live node has installed
 pub record TellsTheState (config : Config) (past : List Event) (st : State) : Type 0 where
   pub told : IsTold config past st
-  pub installed : (node : ℕ) → is_live config past node ≡ true → topology_of st.coord node ≡ installed_by config past node
+  pub installed : (node : ℕ) → is_live config past node ≡ true → topology_of st.holding.coord node ≡ installed_by config past node
 
 -- in every run the events tell what the cluster has
 abbrev pub EventsTellTheState : Type 0
@@ -84,8 +84,8 @@ TellsLosses config past number call =
 
 -- the events tell the stages of all units, and the noted segments of all calls
 pub record TellsStages (config : Config) (past : List Event) (st : State) : Type 0 where
-  pub units : AllByRecursion (TellsStage config past) st.units
-  pub calls : (number : ℕ) (call : Call) → call_of st number ≡ Some call → TellsLosses config past number call
+  pub units : AllByRecursion (TellsStage config past) st.calling.units
+  pub calls : (number : ℕ) (call : Call) → call_of st.calling number ≡ Some call → TellsLosses config past number call
 
 -- in every run the events tell stages and noted segments
 abbrev pub StagesAreTold : Type 0
@@ -110,12 +110,12 @@ fits_journal events = nat_le (length events) MOST_EVENTS && nat_le (total_weight
 
 -- the topology is settled: every live node has installed the newest one, nothing moves, and no topology is next
 abbrev pub is_settled : State → Bool
-is_settled st = all_installed st.coord && (same_phase st.coord.newest.phase NoRebalance && is_none (next_topology st))
+is_settled st = all_installed st.holding.coord && (same_phase st.holding.coord.newest.phase NoRebalance && is_none (next_topology st.holding))
 
 -- a call that isn't answered may be driven on, and so may the topology be until it is settled
 pub record NothingIsStuck (st : State) : Type 0 where
-  pub drive : (call : ℕ) → is_unanswered (call_of st call) ≡ true → is_some (drive_event st call) ≡ true
-  pub advance : is_settled st ≡ false → is_some (advance_event st) ≡ true
+  pub drive : (call : ℕ) → is_unanswered (call_of st.calling call) ≡ true → is_some (drive_event st call) ≡ true
+  pub advance : is_settled st ≡ false → is_some (advance_event st.holding) ≡ true
 
 -- after every run that a journal holds nothing is stuck
 abbrev pub NoCallIsStuck : Type 0
@@ -131,7 +131,7 @@ pub record HasOneUnit (units : List Unit) (call segment : ℕ) : Type 0 where
 -- in every run a call has at most one open unit on a segment, and none on a complete one
 abbrev pub OneUnitStands : Type 0
 OneUnitStands = (config : Config) (events : List Event) → is_config config ≡ true → runs (start config) events ≡ true
-    → (call segment : ℕ) → HasOneUnit (state (start config) events).units call segment
+    → (call segment : ℕ) → HasOneUnit (state (start config) events).calling.units call segment
 
 -- the events tell what the cluster has of a call: what it asks for, the rounds made, its outcome, the entries taken and how many
 -- items were given; and the evidence of a reduction is what its units read that count
@@ -141,14 +141,14 @@ pub record TellsCall (config : Config) (past : List Event) (st : State) (number 
   pub outcome : outcome_in past number ≡ call.outcome
   pub taken : taken_in past number ≡ taken_entries call
   pub given : length (given_in past number) ≡ call.given
-  pub evidence : is_walk call.request ≡ false → evidence config past number ≡ evidence_of st number call
+  pub evidence : is_walk call.request ≡ false → evidence config past number ≡ evidence_of st.calling number call
 
 -- the events tell all calls, the units that the rounds of a call asked for, in order, and the segments that are complete for it
 pub record TellsCalls (config : Config) (past : List Event) (st : State) : Type 0 where
-  pub calls : (number : ℕ) (call : Call) → call_of st number ≡ Some call → TellsCall config past st number call
-  pub others : (number : ℕ) → call_of st number ≡ None → request_of past number ≡ None
-  pub asks : (number : ℕ) → asks_of_call past number ≡ map ask_of (filter (is_of number) st.units)
-  pub ended : (number segment : ℕ) → has_ended_on past number segment ≡ is_complete st.units number segment
+  pub calls : (number : ℕ) (call : Call) → call_of st.calling number ≡ Some call → TellsCall config past st number call
+  pub others : (number : ℕ) → call_of st.calling number ≡ None → request_of past number ≡ None
+  pub asks : (number : ℕ) → asks_of_call past number ≡ map ask_of (filter (is_of number) st.calling.units)
+  pub ended : (number segment : ℕ) → has_ended_on past number segment ≡ is_complete st.calling.units number segment
 
 -- in every run the events tell calls
 abbrev pub CallsAreTold : Type 0

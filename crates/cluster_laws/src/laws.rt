@@ -12,6 +12,7 @@ ghost use Rattle.cluster_laws.specs.Laws.{
   OutcomesAreCaused,
   StagesAreTold,
 };
+ghost use Rattle.cluster_laws.specs.Settled.{SettledIsAimed};
 ghost use Rattle.cluster_model.specs.Completion.{Completion};
 
 /// In every run of a cluster whose settings are in their limits, each live holder of a segment by
@@ -59,6 +60,14 @@ pub fn outcomes_are_caused()
 /// topology is settled.
 pub fn no_call_is_stuck()
     ensures { NoCallIsStuck }
+{}
+
+/// After every such run of at most 1,000,000 events, where the topology is settled the current hash
+/// is the one that a rebalance leads to: with `hash create` that of the formula for the live nodes;
+/// with `hash least` one that the live nodes lead evenly, in which each segment has as many owners
+/// as the settings say or as there are live nodes, and from which nothing would move.
+pub fn settled_is_aimed()
+    ensures { SettledIsAimed }
 {}
 
 /// In every such run a call has at most one open unit on a segment, and none on a segment on which

@@ -35,6 +35,7 @@ all_range : {B : Type 0} (test : B → Bool) (f : ℕ → List B) → ((n : ℕ)
 all_range test f h [] = refl
 all_range test f h (n ∷ xs) = ap (λ b. b && list_all (λ n. list_all test (f n)) xs) (h n) ∙ all_range test f h xs
 
+-- what passes of all that the units of a call scanned passes of its scanned evidence
 scanned_own : (config : Config) (past : List Event) (call : ℕ) (request : Request) (test : Entry → Bool) →
     list_all (λ (ask : Ask). list_all test (scanned_by past ask.unit)) (asks_of_call past call) ≡ true →
     list_all test (scanned_evidence config past call request) ≡ true
@@ -52,6 +53,7 @@ by_request : (config : Config) (past : List Event) (call : ℕ) (request : Reque
 unfolding evidence
 by_request config past call request asked = ap (evidence_by config past call) asked
 
+-- so it passes of the evidence of a reduction
 own_reductions : (config : Config) (past : List Event) (call : ℕ) (request : Request) (test : Entry → Bool) →
     request_of past call ≡ Some request → is_walk request ≡ false →
     list_all (λ (ask : Ask). list_all test (scanned_by past ask.unit)) (asks_of_call past call) ≡ true →
@@ -60,6 +62,7 @@ own_reductions config past call request test asked form h =
     ap (list_all test) (by_request config past call request asked ∙ ap (λ b. if b then taken_in past call else scanned_evidence config past call request) form)
     ∙ scanned_own config past call request test h
 
+-- the evidence of a call is of its own units
 pub its_own : EvidenceIsItsOwn
 its_own = record {
   reductions = own_reductions;

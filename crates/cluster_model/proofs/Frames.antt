@@ -3,9 +3,9 @@ use Rattle.std.proofs.Common.{◌≡◌, ℕ, List, false, Option, None, Some, r
 use Rattle.grid_base.specs.declared.stamped.Stamped.{Stamped}
 use Rattle.grid_event.specs.declared.event.Event.{Event}
 use Rattle.grid_event.specs.declared.event.Event.TheVariants.{Write, Erase, Tick, Join, Depart, Announce, Install, Copy, Land, Invoke, Round, Begin, Scan, Fetch, Take, Done, Answer}
-use Rattle.cluster_model.specs.State.{State, segment_of}
+use Rattle.cluster_model.specs.State.{Holding, State, segment_of}
 use Rattle.cluster_model.specs.Writes.{changed_key, written, erased, ticked}
-use Rattle.cluster_model.specs.Topologies.{joined, departed, announced, installed}
+use Rattle.cluster_model.specs.Topologies.{joined, departed, lost_by_departure, announced, installed, lost_by_installation}
 use Rattle.cluster_model.specs.Transfers.{copied, landed}
 use Rattle.cluster_model.specs.Calls.{invoked, rounded}
 use Rattle.cluster_model.specs.Units.{begun_unit, scanned, fetched, taken_by, ended_unit}
@@ -14,29 +14,20 @@ use Rattle.cluster_model.specs.Step.{changed}
 use Rattle.cluster_model.specs.Laws.{OthersStay, moves_calls, moves_copies, moves_members, moves_units}
 
 -- a change at a key leaves it as it is
-key_config : (st : State) (node : ℕ) (key : List ℕ) (stamped : Option Stamped) (segment : Option ℕ) → (changed_key st node key stamped segment).config ≡ st.config
+key_config : (st : Holding) (node : ℕ) (key : List ℕ) (stamped : Option Stamped) (segment : Option ℕ) → (changed_key st node key stamped segment).config ≡ st.config
 key_config st node key stamped None = refl
 key_config st node key stamped (Some segment) = refl
 
 -- a change at a key leaves it as it is
-key_coord : (st : State) (node : ℕ) (key : List ℕ) (stamped : Option Stamped) (segment : Option ℕ) → (changed_key st node key stamped segment).coord ≡ st.coord
+key_coord : (st : Holding) (node : ℕ) (key : List ℕ) (stamped : Option Stamped) (segment : Option ℕ) → (changed_key st node key stamped segment).coord ≡ st.coord
 key_coord st node key stamped None = refl
 key_coord st node key stamped (Some segment) = refl
 
--- a change at a key leaves it as it is
-key_units : (st : State) (node : ℕ) (key : List ℕ) (stamped : Option Stamped) (segment : Option ℕ) → (changed_key st node key stamped segment).units ≡ st.units
-key_units st node key stamped None = refl
-key_units st node key stamped (Some segment) = refl
-
--- a change at a key leaves it as it is
-key_calls : (st : State) (node : ℕ) (key : List ℕ) (stamped : Option Stamped) (segment : Option ℕ) → (changed_key st node key stamped segment).calls ≡ st.calls
-key_calls st node key stamped None = refl
-key_calls st node key stamped (Some segment) = refl
-
-config_stays : (st : State) (event : Event) → (changed st event).config ≡ st.config
-unfolding written erased ticked joined departed announced installed copied landed invoked rounded begun_unit scanned fetched taken_by ended_unit answered
-config_stays st (Write w) = key_config st w.node w.key (Some (record { value = w.value; until = w.until })) (segment_of st w.key)
-config_stays st (Erase e) = key_config st e.node e.key None (segment_of st e.key)
+-- no event changes the settings
+config_stays : (st : State) (event : Event) → (changed st event).holding.config ≡ st.holding.config
+unfolding written erased ticked joined departed lost_by_departure announced installed lost_by_installation copied landed invoked rounded begun_unit scanned fetched taken_by ended_unit answered
+config_stays st (Write w) = key_config st.holding w.node w.key (Some (record { value = w.value; until = w.until })) (segment_of st.holding w.key)
+config_stays st (Erase e) = key_config st.holding e.node e.key None (segment_of st.holding e.key)
 config_stays st (Tick ticks) = refl
 config_stays st (Join node) = refl
 config_stays st (Depart node) = refl
@@ -53,10 +44,32 @@ config_stays st (Take t) = refl
 config_stays st (Done unit) = refl
 config_stays st (Answer a) = refl
 
-pub coord_stays : (st : State) (event : Event) → moves_members event ≡ false → (changed st event).coord ≡ st.coord
-unfolding written erased ticked joined departed announced installed copied landed invoked rounded begun_unit scanned fetched taken_by ended_unit answered
-coord_stays st (Write w) other = key_coord st w.node w.key (Some (record { value = w.value; until = w.until })) (segment_of st w.key)
-coord_stays st (Erase e) other = key_coord st e.node e.key None (segment_of st e.key)
+-- no event changes how many segments a call reads
+segments_stays : (st : State) (event : Event) → (changed st event).calling.segments ≡ st.calling.segments
+unfolding written erased ticked joined departed lost_by_departure announced installed lost_by_installation copied landed invoked rounded begun_unit scanned fetched taken_by ended_unit answered
+segments_stays st (Write w) = refl
+segments_stays st (Erase e) = refl
+segments_stays st (Tick ticks) = refl
+segments_stays st (Join node) = refl
+segments_stays st (Depart node) = refl
+segments_stays st (Announce topology) = refl
+segments_stays st (Install node id) = refl
+segments_stays st (Copy c) = refl
+segments_stays st (Land receiver segment) = refl
+segments_stays st (Invoke i) = refl
+segments_stays st (Round r) = refl
+segments_stays st (Begin unit runs) = refl
+segments_stays st (Scan s) = refl
+segments_stays st (Fetch f) = refl
+segments_stays st (Take t) = refl
+segments_stays st (Done unit) = refl
+segments_stays st (Answer a) = refl
+
+-- members and topologies are changed by their events alone
+pub coord_stays : (st : State) (event : Event) → moves_members event ≡ false → (changed st event).holding.coord ≡ st.holding.coord
+unfolding written erased ticked joined departed lost_by_departure announced installed lost_by_installation copied landed invoked rounded begun_unit scanned fetched taken_by ended_unit answered
+coord_stays st (Write w) other = key_coord st.holding w.node w.key (Some (record { value = w.value; until = w.until })) (segment_of st.holding w.key)
+coord_stays st (Erase e) other = key_coord st.holding e.node e.key None (segment_of st.holding e.key)
 coord_stays st (Tick ticks) other = refl
 coord_stays st (Join node) other = absurd (cc)
 coord_stays st (Depart node) other = absurd (cc)
@@ -73,8 +86,9 @@ coord_stays st (Take t) other = refl
 coord_stays st (Done unit) other = refl
 coord_stays st (Answer a) other = refl
 
-copying_stays : (st : State) (event : Event) → moves_copies event ≡ false → (changed st event).copying ≡ st.copying
-unfolding written erased ticked joined departed announced installed copied landed invoked rounded begun_unit scanned fetched taken_by ended_unit answered
+-- copies and transfers are changed by their events alone
+copying_stays : (st : State) (event : Event) → moves_copies event ≡ false → (changed st event).holding.copying ≡ st.holding.copying
+unfolding written erased ticked joined departed lost_by_departure announced installed lost_by_installation copied landed invoked rounded begun_unit scanned fetched taken_by ended_unit answered
 copying_stays st (Write w) other = absurd (cc)
 copying_stays st (Erase e) other = absurd (cc)
 copying_stays st (Tick ticks) other = absurd (cc)
@@ -93,10 +107,11 @@ copying_stays st (Take t) other = refl
 copying_stays st (Done unit) other = refl
 copying_stays st (Answer a) other = refl
 
-pub units_stays : (st : State) (event : Event) → moves_units event ≡ false → (changed st event).units ≡ st.units
-unfolding written erased ticked joined departed announced installed copied landed invoked rounded begun_unit scanned fetched taken_by ended_unit answered
-units_stays st (Write w) other = key_units st w.node w.key (Some (record { value = w.value; until = w.until })) (segment_of st w.key)
-units_stays st (Erase e) other = key_units st e.node e.key None (segment_of st e.key)
+-- units are changed by their events alone
+pub units_stays : (st : State) (event : Event) → moves_units event ≡ false → (changed st event).calling.units ≡ st.calling.units
+unfolding written erased ticked joined departed lost_by_departure announced installed lost_by_installation copied landed invoked rounded begun_unit scanned fetched taken_by ended_unit answered
+units_stays st (Write w) other = refl
+units_stays st (Erase e) other = refl
 units_stays st (Tick ticks) other = refl
 units_stays st (Join node) other = refl
 units_stays st (Depart node) other = absurd (cc)
@@ -113,10 +128,11 @@ units_stays st (Take t) other = absurd (cc)
 units_stays st (Done unit) other = absurd (cc)
 units_stays st (Answer a) other = refl
 
-calls_stays : (st : State) (event : Event) → moves_calls event ≡ false → (changed st event).calls ≡ st.calls
-unfolding written erased ticked joined departed announced installed copied landed invoked rounded begun_unit scanned fetched taken_by ended_unit answered
-calls_stays st (Write w) other = key_calls st w.node w.key (Some (record { value = w.value; until = w.until })) (segment_of st w.key)
-calls_stays st (Erase e) other = key_calls st e.node e.key None (segment_of st e.key)
+-- calls are changed by their events alone
+calls_stays : (st : State) (event : Event) → moves_calls event ≡ false → (changed st event).calling.calls ≡ st.calling.calls
+unfolding written erased ticked joined departed lost_by_departure announced installed lost_by_installation copied landed invoked rounded begun_unit scanned fetched taken_by ended_unit answered
+calls_stays st (Write w) other = refl
+calls_stays st (Erase e) other = refl
 calls_stays st (Tick ticks) other = refl
 calls_stays st (Join node) other = refl
 calls_stays st (Depart node) other = absurd (cc)
@@ -133,5 +149,6 @@ calls_stays st (Take t) other = absurd (cc)
 calls_stays st (Done unit) other = refl
 calls_stays st (Answer a) other = absurd (cc)
 
+-- each part of the state is changed by its kinds of events alone
 pub others_stay : OthersStay
-others_stay = record { config = config_stays; coord = coord_stays; copying = copying_stays; units = units_stays; calls = calls_stays }
+others_stay = record { segments = segments_stays; config = config_stays; coord = coord_stays; copying = copying_stays; units = units_stays; calls = calls_stays }

@@ -1,4 +1,5 @@
 pub mod ChosenSteps
+pub mod NoNewCalls
 pub mod Steps
 pub mod Frames
 pub mod MapLaws

@@ -48,4 +48,4 @@ pub record IsCompleted (config : Config) (past : List Event) (unit : Unit) : Typ
 abbrev pub Completion : Type 0
 Completion =
     (config : Config) (events : List Event) → is_config config ≡ true → runs (start config) events ≡ true
-    → AllByRecursion (λ unit. is_reading unit ≡ true → IsCompleted config (reverse events) unit) (state (start config) events).units
+    → AllByRecursion (λ unit. is_reading unit ≡ true → IsCompleted config (reverse events) unit) (state (start config) events).calling.units

@@ -80,4 +80,4 @@ pub record KeepsParts (segments : ℕ) (c : Coordination) (copying : Copying) (c
 -- all that is kept: what the events tell is what the cluster has, and the four parts, of the map that the events tell
 pub record IsKept (config : Config) (past : List Event) (st : State) : Type 0 where
   pub told : IsTold config past st
-  pub parts : KeepsParts config.segments st.coord st.copying (contents_of config past)
+  pub parts : KeepsParts config.segments st.holding.coord st.holding.copying (contents_of config past)

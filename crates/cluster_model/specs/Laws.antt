@@ -78,11 +78,12 @@ moves_calls _ = false
 
 -- each part of the state is changed by its kinds of events alone, and the settings by none
 pub record OthersStay : Type 0 where
-  pub config : (st : State) (event : Event) → (changed st event).config ≡ st.config
-  pub coord : (st : State) (event : Event) → moves_members event ≡ false → (changed st event).coord ≡ st.coord
-  pub copying : (st : State) (event : Event) → moves_copies event ≡ false → (changed st event).copying ≡ st.copying
-  pub units : (st : State) (event : Event) → moves_units event ≡ false → (changed st event).units ≡ st.units
-  pub calls : (st : State) (event : Event) → moves_calls event ≡ false → (changed st event).calls ≡ st.calls
+  pub segments : (st : State) (event : Event) → (changed st event).calling.segments ≡ st.calling.segments
+  pub config : (st : State) (event : Event) → (changed st event).holding.config ≡ st.holding.config
+  pub coord : (st : State) (event : Event) → moves_members event ≡ false → (changed st event).holding.coord ≡ st.holding.coord
+  pub copying : (st : State) (event : Event) → moves_copies event ≡ false → (changed st event).holding.copying ≡ st.holding.copying
+  pub units : (st : State) (event : Event) → moves_units event ≡ false → (changed st event).calling.units ≡ st.calling.units
+  pub calls : (st : State) (event : Event) → moves_calls event ≡ false → (changed st event).calling.calls ≡ st.calling.calls
 
 -- two keys have the same bytes
 abbrev pub same_key : List ℕ → List ℕ → Bool

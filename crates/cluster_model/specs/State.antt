@@ -43,39 +43,61 @@ pub record Call : Type 0 where
   pub lost : set_of.FinSet nat_cmp
   pub outcome : Option Outcome
 
--- the settings; the members and topologies; the copies and transfers; the units in the order of their numbers; the calls by number
-pub record State : Type 0 where
+-- what a cluster holds: the settings; the members and topologies; the copies and transfers
+pub record Holding : Type 0 where
   pub config : Config
   pub coord : Coordination
   pub copying : Copying
+
+-- what is asked of a cluster: the number of the segments that a call reads; the units in the order of their numbers; the calls
+-- by number
+pub record Calling : Type 0 where
+  pub segments : ℕ
   pub units : List Unit
   pub calls : map_of.FinMap nat_cmp Call
 
--- the start of a cluster: the first nodes are live with the first topology, nothing is held, and nothing was asked
-abbrev pub start : Config → State
-start config = record {
+pub record State : Type 0 where
+  pub holding : Holding
+  pub calling : Calling
+
+-- the first nodes are live with the first topology, and nothing is held
+abbrev pub first_holding : Config → Holding
+first_holding config = record {
   config = config;
-  coord = first_coordination config.nodes config.segments config.owners;
+  coord = first_coordination config.nodes config.segments config.owners config.aim;
   copying = nothing_held;
-  units = [];
-  calls = map_of.empty;
 }
 
+-- nothing was asked
+abbrev pub no_calls : ℕ → Calling
+no_calls segments = record { segments = segments; units = []; calls = map_of.empty }
+
+-- the start of a cluster
+abbrev pub start : Config → State
+start config = record { holding = first_holding config; calling = no_calls config.segments }
+
 -- the segments of the cluster, ascending
-abbrev pub segments_of : State → List ℕ
-segments_of st = range_with_len 0 st.config.segments
+abbrev pub segments_of : Holding → List ℕ
+segments_of holding = range_with_len 0 holding.config.segments
+
+-- the segments that a call reads, ascending
+abbrev pub segments_read : Calling → List ℕ
+segments_read calling = range_with_len 0 calling.segments
 
 -- the segment of a key, where it has one
-abbrev pub segment_of : State → List ℕ → Option ℕ
-segment_of st key = segment_number st.config.partition st.config.segments key
+abbrev pub segment_of : Holding → List ℕ → Option ℕ
+segment_of holding key = segment_number holding.config.partition holding.config.segments key
 
 -- the unit of that number, where there is one
-abbrev pub unit_of : State → ℕ → Option Unit
-unit_of st number = find (λ (unit : Unit). unit.work.id == number) st.units
+abbrev pub unit_in : List Unit → ℕ → Option Unit
+unit_in units number = find (λ (unit : Unit). unit.work.id == number) units
+
+abbrev pub unit_of : Calling → ℕ → Option Unit
+unit_of calling number = unit_in calling.units number
 
 -- the call of that number, where there is one
-abbrev pub call_of : State → ℕ → Option Call
-call_of st number = map_of.get st.calls number
+abbrev pub call_of : Calling → ℕ → Option Call
+call_of calling number = map_of.get calling.calls number
 
 abbrev pub is_asked : UnitState → Bool
 is_asked Asked = true
@@ -118,9 +140,9 @@ abbrev pub is_open_unit : Unit → Bool
 is_open_unit unit = is_open unit.work.state
 
 -- the call is there and unanswered, and its originator is live
-abbrev pub goes_on : State → Option Call → Bool
-goes_on st None = false
-goes_on st (Some call) = is_none call.outcome && lives st.coord call.originator
+abbrev pub goes_on : Holding → Option Call → Bool
+goes_on holding None = false
+goes_on holding (Some call) = is_none call.outcome && lives holding.coord call.originator
 
 -- the unit of that number is changed, and the others stay
 abbrev pub with_unit : ℕ → (Unit → Unit) → List Unit → List Unit

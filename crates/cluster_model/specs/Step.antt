@@ -4,9 +4,10 @@ use Rattle.grid_event.specs.declared.config.Config.{Config}
 use Rattle.grid_event.specs.declared.event.Event.{Event}
 use Rattle.grid_event.specs.declared.event.Event.TheVariants.{Write, Erase, Tick, Join, Depart, Announce, Install, Copy, Land, Invoke, Round, Begin, Scan, Fetch, Take, Done, Answer}
 use Rattle.grid_event.specs.Histories.{History}
+use Rattle.topology_coord.specs.Coordination.{lost_segments}
 use Rattle.cluster_model.specs.State.{State, start}
 use Rattle.cluster_model.specs.Writes.{can_write, written, can_erase, erased, can_tick, ticked}
-use Rattle.cluster_model.specs.Topologies.{can_join, joined, can_depart, departed, can_announce, announced, can_install, installed}
+use Rattle.cluster_model.specs.Topologies.{can_join, joined, can_depart, departed, lost_by_departure, can_announce, announced, can_install, installed, lost_by_installation}
 use Rattle.cluster_model.specs.Transfers.{can_copy, copied, can_land, landed}
 use Rattle.cluster_model.specs.Calls.{can_invoke, invoked, can_round, rounded}
 use Rattle.cluster_model.specs.Units.{can_begin, begun_unit, can_scan, scanned, can_fetch, fetched, can_take, taken_by, can_end, ended_unit}
@@ -14,15 +15,15 @@ use Rattle.cluster_model.specs.Answers.{can_answer, answered}
 
 -- the event may happen now
 abbrev pub allowed : State → Event → Bool
-allowed st (Write w) = can_write st w
-allowed st (Erase e) = can_erase st e
-allowed st (Tick ticks) = can_tick st ticks
-allowed st (Join node) = can_join st node
-allowed st (Depart node) = can_depart st node
-allowed st (Announce topology) = can_announce st topology
-allowed st (Install node id) = can_install st node id
-allowed st (Copy c) = can_copy st c
-allowed st (Land receiver segment) = can_land st receiver segment
+allowed st (Write w) = can_write st.holding w
+allowed st (Erase e) = can_erase st.holding e
+allowed st (Tick ticks) = can_tick st.holding ticks
+allowed st (Join node) = can_join st.holding node
+allowed st (Depart node) = can_depart st.holding node
+allowed st (Announce topology) = can_announce st.holding topology
+allowed st (Install node id) = can_install st.holding node id
+allowed st (Copy c) = can_copy st.holding c
+allowed st (Land receiver segment) = can_land st.holding receiver segment
 allowed st (Invoke i) = can_invoke st i
 allowed st (Round r) = can_round st r
 allowed st (Begin unit runs) = can_begin st unit runs
@@ -34,23 +35,25 @@ allowed st (Answer a) = can_answer st a
 
 -- what the event makes of the cluster
 abbrev pub changed : State → Event → State
-changed st (Write w) = written st w
-changed st (Erase e) = erased st e
-changed st (Tick ticks) = ticked st ticks
-changed st (Join node) = joined st node
-changed st (Depart node) = departed st node
-changed st (Announce topology) = announced st topology
-changed st (Install node id) = installed st node id
-changed st (Copy c) = copied st c
-changed st (Land receiver segment) = landed st receiver segment
-changed st (Invoke i) = invoked st i
-changed st (Round r) = rounded st r
-changed st (Begin unit runs) = begun_unit st unit runs
-changed st (Scan s) = scanned st s
-changed st (Fetch f) = fetched st f
-changed st (Take t) = taken_by st t
-changed st (Done unit) = ended_unit st unit
-changed st (Answer a) = answered st a
+changed st (Write w) = record st { holding = written st.holding w }
+changed st (Erase e) = record st { holding = erased st.holding e }
+changed st (Tick ticks) = record st { holding = ticked st.holding ticks }
+changed st (Join node) = record st { holding = joined st.holding node }
+changed st (Depart node) =
+    record { holding = departed st.holding node; calling = lost_by_departure node (lost_segments st.holding.coord node) st.calling }
+changed st (Announce topology) = record st { holding = announced st.holding topology }
+changed st (Install node id) =
+    record { holding = installed st.holding node id; calling = lost_by_installation st.holding.coord.newest node id st.calling }
+changed st (Copy c) = record st { holding = copied st.holding c }
+changed st (Land receiver segment) = record st { holding = landed st.holding receiver segment }
+changed st (Invoke i) = record st { calling = invoked st.calling i }
+changed st (Round r) = record st { calling = rounded st.calling r }
+changed st (Begin unit runs) = record st { calling = begun_unit st.holding st.calling unit runs }
+changed st (Scan s) = record st { calling = scanned st.calling s }
+changed st (Fetch f) = record st { calling = fetched st.calling f }
+changed st (Take t) = record st { calling = taken_by st.calling t }
+changed st (Done unit) = record st { calling = ended_unit st.calling unit }
+changed st (Answer a) = record st { calling = answered st.calling a }
 
 -- the cluster after the event, or nothing where it may not happen
 abbrev pub after : State → Event → Option State

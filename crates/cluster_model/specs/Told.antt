@@ -40,11 +40,12 @@ installed_by config past node = topology_numbered config past (installed_topolog
 -- what the events tell is what the cluster has: its settings, the live nodes, those that were ever members, the newest topology,
 -- the topologies that live nodes have installed, and the clock
 pub record IsTold (config : Config) (past : List Event) (st : State) : Type 0 where
-  pub settings : st.config ≡ config
-  pub live : (node : ℕ) → lives st.coord node ≡ is_live config past node
-  pub member : (node : ℕ) → set_of.contains st.coord.ever node ≡ was_member config past node
-  pub newest : st.coord.newest ≡ newest_topology config past
-  pub installed : (node : ℕ) → lives st.coord node ≡ true → installed_id st.coord node ≡ installed_topology config past node
-  pub newest_numbered : topology_numbered config past st.coord.newest.id ≡ st.coord.newest
-  pub before_numbered : topology_numbered config past st.coord.before.id ≡ st.coord.before
-  pub clock : st.copying.clock ≡ clock_of past
+  pub settings : st.holding.config ≡ config
+  pub segments : st.calling.segments ≡ config.segments
+  pub live : (node : ℕ) → lives st.holding.coord node ≡ is_live config past node
+  pub member : (node : ℕ) → set_of.contains st.holding.coord.ever node ≡ was_member config past node
+  pub newest : st.holding.coord.newest ≡ newest_topology config past
+  pub installed : (node : ℕ) → lives st.holding.coord node ≡ true → installed_id st.holding.coord node ≡ installed_topology config past node
+  pub newest_numbered : topology_numbered config past st.holding.coord.newest.id ≡ st.holding.coord.newest
+  pub before_numbered : topology_numbered config past st.holding.coord.before.id ≡ st.holding.coord.before
+  pub clock : st.holding.copying.clock ≡ clock_of past

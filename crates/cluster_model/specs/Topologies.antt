@@ -8,25 +8,25 @@ use Rattle.delivery_mode.specs.Guarantee.{asks_again}
 use Rattle.state_transfer.specs.Copying.{Copying, Transfer, has_ended, transfer_to}
 use Rattle.state_transfer.specs.Leaving.{cancels, closes, drops, forgets, restarts}
 use Rattle.topology_coord.specs.Changes.{announces, departs, installs, joins, may_depart, may_install, may_join}
-use Rattle.topology_coord.specs.Coordination.{lost_segments, loses}
+use Rattle.topology_coord.specs.Coordination.{loses}
 use Rattle.topology_coord.specs.Following.{following, receives}
 use Rattle.topology_phase.specs.Owners.{among, owners_at}
 use Rattle.topology_phase.specs.declared.phase.Phase.TheVariants.{ReadOld}
 use Rattle.topology_phase.specs.Phases.{same_phase}
 use Rattle.topology_phase.specs.Topologies.{Topology, read_owners, same_topology, write_owners}
-use Rattle.cluster_model.specs.State.{Call, State, Unit, is_ended, is_on, is_open_unit, is_running, segments_of, with_loss}
+use Rattle.cluster_model.specs.State.{Call, Calling, Holding, Unit, is_ended, is_on, is_open_unit, is_running, segments_of, with_loss}
 
 -- a node that was never a member may join, up to number 15
-unfoldable pub can_join : State → ℕ → Bool
-can_join st node = may_join st.coord node
+unfoldable pub can_join : Holding → ℕ → Bool
+can_join holding node = may_join holding.coord node
 
 -- the node is live, with the newest topology; nothing else changes
-unfoldable pub joined : State → ℕ → State
-joined st node = record st { coord = joins st.coord node }
+unfoldable pub joined : Holding → ℕ → Holding
+joined holding node = record holding { coord = joins holding.coord node }
 
 -- a live node may depart that isn't the only one
-unfoldable pub can_depart : State → ℕ → Bool
-can_depart st node = may_depart st.coord node
+unfoldable pub can_depart : Holding → ℕ → Bool
+can_depart holding node = may_depart holding.coord node
 
 -- a unit of the call on the segment has ended
 abbrev pub is_complete : List Unit → ℕ → ℕ → Bool
@@ -55,17 +55,23 @@ each_call change calls = changed_calls change (map_of.entries calls)
 
 -- what the departure of a node does to copies and transfers: the transfers to it go, and those that it provides and that haven't
 -- ended, the lost segments are forgotten everywhere, and its copies go
-abbrev pub left_by : State → ℕ → Copying
-left_by st node =
-    drops node (λ segment. true) (forgets (loses st.coord node) (restarts node (cancels node st.copying)))
+abbrev pub left_by : Holding → ℕ → Copying
+left_by holding node =
+    drops node (λ segment. true) (forgets (loses holding.coord node) (restarts node (cancels node holding.copying)))
 
--- the node is gone with its copies, and so are the lost segments; its open units are lost; and unanswered calls that ask again note the losses
-unfoldable pub departed : State → ℕ → State
-departed st node = record st {
-  coord = departs st.coord node;
-  copying = left_by st node;
-  units = map (λ unit. cond (is_open_unit unit && (unit.work.node == node)) (with_loss None unit) unit) st.units;
-  calls = each_call (notes_losses st.units (lost_segments st.coord node)) st.calls;
+-- the node is gone with its copies, and so are the lost segments
+unfoldable pub departed : Holding → ℕ → Holding
+departed holding node = record holding { coord = departs holding.coord node; copying = left_by holding node }
+
+-- a node departs: its open units are lost
+abbrev pub with_departure : ℕ → Unit → Unit
+with_departure node unit = cond (is_open_unit unit && (unit.work.node == node)) (with_loss None unit) unit
+
+-- a node departs by which these segments are lost: its open units are lost, and unanswered calls that ask again note the losses
+unfoldable pub lost_by_departure : ℕ → List ℕ → Calling → Calling
+lost_by_departure node lost calling = record calling {
+  units = map (with_departure node) calling.units;
+  calls = each_call (notes_losses calling.units lost) calling.calls;
 }
 
 -- the transfer has ended
@@ -74,48 +80,51 @@ is_over None = false
 is_over (Some transfer) = has_ended transfer
 
 -- every receiver of a segment has ended its transfer
-abbrev pub all_copied : State → Bool
-all_copied st =
+abbrev pub all_copied : Holding → Bool
+all_copied holding =
     list_all
     (λ segment.
-    list_all (λ node. not (receives st.coord node segment) || is_over (transfer_to st.copying.transfers node segment))
-    (owners_at st.coord.newest.pending segment))
-    (segments_of st)
+    list_all (λ node. not (receives holding.coord node segment) || is_over (transfer_to holding.copying.transfers node segment))
+    (owners_at holding.coord.newest.pending segment))
+    (segments_of holding)
 
 -- the next topology, or none
-abbrev pub next_topology : State → Option Topology
-next_topology st = following (all_copied st) st.coord
+abbrev pub next_topology : Holding → Option Topology
+next_topology holding = following (all_copied holding) holding.coord
 
 abbrev pub is_that : Topology → Option Topology → Bool
 is_that topology None = false
 is_that topology (Some next) = same_topology topology next
 
 -- the next topology may be announced, and no other
-unfoldable pub can_announce : State → Topology → Bool
-can_announce st topology = is_that topology (next_topology st)
+unfoldable pub can_announce : Holding → Topology → Bool
+can_announce holding topology = is_that topology (next_topology holding)
 
 -- the topology is the newest; all transfers go, unless its phase is the first one of a rebalance
-unfoldable pub announced : State → Topology → State
-announced st topology = record st {
-  coord = announces st.coord topology;
-  copying = cond (same_phase topology.phase ReadOld) st.copying (closes st.copying);
+unfoldable pub announced : Holding → Topology → Holding
+announced holding topology = record holding {
+  coord = announces holding.coord topology;
+  copying = cond (same_phase topology.phase ReadOld) holding.copying (closes holding.copying);
 }
 
 -- a live node may install the newest topology, where it hasn't yet
-unfoldable pub can_install : State → ℕ → ℕ → Bool
-can_install st node id = may_install st.coord node id
+unfoldable pub can_install : Holding → ℕ → ℕ → Bool
+can_install holding node id = may_install holding.coord node id
 
 -- the unit runs at the node, on a segment that the node doesn't read by the newest topology
-abbrev pub ceases : State → ℕ → Unit → Bool
-ceases st node unit =
-    is_running unit.work.state
-    && ((unit.work.node == node) && not (among node (read_owners st.coord.newest unit.work.segment)))
+abbrev pub ceases : Topology → ℕ → Unit → Bool
+ceases newest node unit =
+    is_running unit.work.state && ((unit.work.node == node) && not (among node (read_owners newest unit.work.segment)))
 
--- the node has the newest topology; it drops its copies of segments that it doesn't write, and its running units on
--- segments that it doesn't read are lost
-unfoldable pub installed : State → ℕ → ℕ → State
-installed st node id = record st {
-  coord = installs st.coord node;
-  copying = drops node (λ segment. not (among node (write_owners st.coord.newest segment))) st.copying;
-  units = map (λ unit. cond (ceases st node unit) (with_loss (Some id) unit) unit) st.units;
+-- the node has the newest topology, and drops its copies of segments that it doesn't write
+unfoldable pub installed : Holding → ℕ → ℕ → Holding
+installed holding node id = record holding {
+  coord = installs holding.coord node;
+  copying = drops node (λ segment. not (among node (write_owners holding.coord.newest segment))) holding.copying;
+}
+
+-- a node installs the newest topology: its running units on segments that it doesn't read by it are lost
+unfoldable pub lost_by_installation : Topology → ℕ → ℕ → Calling → Calling
+lost_by_installation newest node id calling = record calling {
+  units = map (λ unit. cond (ceases newest node unit) (with_loss (Some id) unit) unit) calling.units;
 }

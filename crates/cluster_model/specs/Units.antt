@@ -21,28 +21,28 @@ use Rattle.topology_coord.specs.Coordination.{installed_id, topology_of}
 use Rattle.topology_phase.specs.Owners.{among}
 use Rattle.topology_phase.specs.Topologies.{read_owners}
 use Rattle.cluster_model.specs.Same.{same_batch, same_entries, same_items}
-use Rattle.cluster_model.specs.State.{Call, State, Taken, Unit, call_of, goes_on, is_asked, is_exact, is_running, is_walk, unit_of, with_unit}
+use Rattle.cluster_model.specs.State.{Call, Calling, Holding, State, Taken, Unit, call_of, goes_on, is_asked, is_exact, is_running, is_walk, unit_of, with_unit}
 
 -- the unit's node reads its segment by the topology that the node has installed
-abbrev pub reads : State → Unit → Bool
-reads st unit = among unit.work.node (read_owners (topology_of st.coord unit.work.node) unit.work.segment)
+abbrev pub reads : Holding → Unit → Bool
+reads holding unit = among unit.work.node (read_owners (topology_of holding.coord unit.work.node) unit.work.segment)
 
 -- the unit is asked, its node has installed the topology of its round or a later one, and it runs exactly where its node reads its segment
 abbrev pub can_begin_unit : State → Bool → Option Unit → Bool
 can_begin_unit st runs None = false
 can_begin_unit st runs (Some unit) =
-    goes_on st (call_of st unit.work.call)
-    && (is_asked unit.work.state && (nat_le unit.work.asked_at (installed_id st.coord unit.work.node) && beq runs (reads st unit)))
+    goes_on st.holding (call_of st.calling unit.work.call)
+    && (is_asked unit.work.state && (nat_le unit.work.asked_at (installed_id st.holding.coord unit.work.node) && beq runs (reads st.holding unit)))
 
 unfoldable pub can_begin : State → ℕ → Bool → Bool
-can_begin st number runs = can_begin_unit st runs (unit_of st number)
+can_begin st number runs = can_begin_unit st runs (unit_of st.calling number)
 
 -- the unit runs, or it is refused at the topology that its node has installed
-abbrev pub with_begin : State → Bool → Unit → Unit
-with_begin st runs unit = record unit { work = begun unit.work runs (installed_id st.coord unit.work.node) }
+abbrev pub with_begin : Holding → Bool → Unit → Unit
+with_begin holding runs unit = record unit { work = begun unit.work runs (installed_id holding.coord unit.work.node) }
 
-unfoldable pub begun_unit : State → ℕ → Bool → State
-begun_unit st number runs = record st { units = with_unit number (with_begin st runs) st.units }
+unfoldable pub begun_unit : Holding → Calling → ℕ → Bool → Calling
+begun_unit holding calling number runs = record calling { units = with_unit number (with_begin holding runs) calling.units }
 
 -- how many entries a call reads at a time
 abbrev pub batch_size : Option Call → ℕ
@@ -57,8 +57,8 @@ last_key entries = option_map (λ (e : Entry). e.key) (slice_get entries (length
 abbrev pub next_batch : State → Unit → Portion Entry
 next_batch st unit =
     without_deadlines
-    (next_chunk unit.work.node (last_key unit.work.entries) (batch_size (call_of st unit.work.call))
-    (part_of st.copying.cells unit.work.node unit.work.segment))
+    (next_chunk unit.work.node (last_key unit.work.entries) (batch_size (call_of st.calling unit.work.call))
+    (part_of st.holding.copying.cells unit.work.node unit.work.segment))
 
 -- how many entries were read by all units
 abbrev pub read_by : List Unit → ℕ
@@ -75,29 +75,29 @@ walks (Some call) = is_walk call.request
 abbrev pub can_read : State → Bool → Portion Entry → Option Unit → Bool
 can_read st walk batch None = false
 can_read st walk batch (Some unit) =
-    goes_on st (call_of st unit.work.call)
-    && (beq walk (walks (call_of st unit.work.call))
+    goes_on st.holding (call_of st.calling unit.work.call)
+    && (beq walk (walks (call_of st.calling unit.work.call))
     && (is_running unit.work.state
     && (not unit.work.last
     && (is_none unit.flying
-    && (same_batch batch (next_batch st unit) && nat_le (read_by st.units + length batch.entries) MOST_READ)))))
+    && (same_batch batch (next_batch st unit) && nat_le (read_by st.calling.units + length batch.entries) MOST_READ)))))
 
 -- a unit of a reduction reads on
 unfoldable pub can_scan : State → ScanEvent → Bool
-can_scan st s = can_read st false s.batch (unit_of st s.unit)
+can_scan st s = can_read st false s.batch (unit_of st.calling s.unit)
 
 -- the unit has read the batch
-unfoldable pub scanned : State → ScanEvent → State
-scanned st s = record st { units = with_unit s.unit (λ unit. record unit { work = extended unit.work s.batch }) st.units }
+unfoldable pub scanned : Calling → ScanEvent → Calling
+scanned calling s = record calling { units = with_unit s.unit (λ unit. record unit { work = extended unit.work s.batch }) calling.units }
 
 -- a unit of a walk reads on
 unfoldable pub can_fetch : State → FetchEvent → Bool
-can_fetch st f = can_read st true f.batch (unit_of st f.unit)
+can_fetch st f = can_read st true f.batch (unit_of st.calling f.unit)
 
 -- the unit has read the batch, which flies to the originator
-unfoldable pub fetched : State → FetchEvent → State
-fetched st f = record st {
-  units = with_unit f.unit (λ unit. record { work = extended unit.work f.batch; flying = Some f.batch.entries }) st.units;
+unfoldable pub fetched : Calling → FetchEvent → Calling
+fetched calling f = record calling {
+  units = with_unit f.unit (λ unit. record { work = extended unit.work f.batch; flying = Some f.batch.entries }) calling.units;
 }
 
 -- an entry of the segment under the key was taken before
@@ -125,42 +125,42 @@ is_taking call unit t (Some batch) =
     same_entries t.entries (passing call unit batch) && same_items t.given (further_items call t.entries)
 
 abbrev pub can_take_unit : State → Taking → Option Unit → Option Call → Bool
-can_take_unit st t (Some unit) (Some call) = goes_on st (Some call) && is_taking call unit t unit.flying
+can_take_unit st t (Some unit) (Some call) = goes_on st.holding (Some call) && is_taking call unit t unit.flying
 can_take_unit st t _ _ = false
 
-abbrev pub call_of_unit : State → Option Unit → Option Call
-call_of_unit st None = None
-call_of_unit st (Some unit) = call_of st unit.work.call
+abbrev pub call_of_unit : Calling → Option Unit → Option Call
+call_of_unit calling None = None
+call_of_unit calling (Some unit) = call_of calling unit.work.call
 
 -- a batch of the unit flies; what passes of it is taken, and its further items are given
 unfoldable pub can_take : State → Taking → Bool
-can_take st t = can_take_unit st t (unit_of st t.unit) (call_of_unit st (unit_of st t.unit))
+can_take st t = can_take_unit st t (unit_of st.calling t.unit) (call_of_unit st.calling (unit_of st.calling t.unit))
 
 -- the entries are taken behind the others, and the items were given
-abbrev pub with_taking : State → Taking → Option Unit → Option Call → map_of.FinMap nat_cmp Call
-with_taking st t (Some unit) (Some call) =
-    map_of.insert st.calls unit.work.call
+abbrev pub with_taking : Calling → Taking → Option Unit → Option Call → map_of.FinMap nat_cmp Call
+with_taking calling t (Some unit) (Some call) =
+    map_of.insert calling.calls unit.work.call
     (record call {
       taken = call.taken ++ map (λ (e : Entry). record { segment = unit.work.segment; entry_of = e }) t.entries;
       given = call.given + length t.given;
     })
-with_taking st t _ _ = st.calls
+with_taking calling t _ _ = calling.calls
 
-unfoldable pub taken_by : State → Taking → State
-taken_by st t = record st {
-  calls = with_taking st t (unit_of st t.unit) (call_of_unit st (unit_of st t.unit));
-  units = with_unit t.unit (λ unit. record unit { flying = None }) st.units;
+unfoldable pub taken_by : Calling → Taking → Calling
+taken_by calling t = record calling {
+  calls = with_taking calling t (unit_of calling t.unit) (call_of_unit calling (unit_of calling t.unit));
+  units = with_unit t.unit (λ unit. record unit { flying = None }) calling.units;
 }
 
 -- the unit's call goes on, the unit runs, and it has read its last batch, of which nothing flies
 abbrev pub can_end_unit : State → Option Unit → Bool
 can_end_unit st None = false
 can_end_unit st (Some unit) =
-    goes_on st (call_of st unit.work.call) && (is_running unit.work.state && (unit.work.last && is_none unit.flying))
+    goes_on st.holding (call_of st.calling unit.work.call) && (is_running unit.work.state && (unit.work.last && is_none unit.flying))
 
 unfoldable pub can_end : State → ℕ → Bool
-can_end st number = can_end_unit st (unit_of st number)
+can_end st number = can_end_unit st (unit_of st.calling number)
 
 -- the unit has ended, and its segment is complete for its call
-unfoldable pub ended_unit : State → ℕ → State
-ended_unit st number = record st { units = with_unit number (λ unit. record unit { work = ended unit.work }) st.units }
+unfoldable pub ended_unit : Calling → ℕ → Calling
+ended_unit calling number = record calling { units = with_unit number (λ unit. record unit { work = ended unit.work }) calling.units }

@@ -12,11 +12,11 @@ use Rattle.state_transfer.specs.Copying.{Stores, nothing_held, transfer_to}
 use Rattle.state_transfer.proofs.CellLaws.{transfer-none}
 use Rattle.topology_coord.specs.Coordination.{Coordination, first_coordination, lives}
 use Rattle.topology_coord.proofs.FirstNodes.{nodes_more}
-use Rattle.cluster_model.specs.State.{State, start}
-use Rattle.cluster_laws.proofs.Starts.{first_node, good_config, start_kept}
+use Rattle.cluster_model.specs.State.{Holding, first_holding}
+use Rattle.cluster_laws.proofs.copies.Starts.{first_node, good_config, start_kept}
 use Rattle.cluster_store.specs.Insides.{IsReached, IsStore}
-use Rattle.cluster_store.specs.Known.{IsKnown}
-use Rattle.cluster_store.specs.declared.known.Known.{Known}
+use Rattle.cluster_store.specs.Hints.{AreHints}
+use Rattle.cluster_store.specs.declared.hints.Hints.{Hints}
 use Rattle.cluster_store.proofs.Reached.{start_reached}
 
 -- the first nodes are there, and hold nothing
@@ -45,15 +45,15 @@ next_there n k stores later are is put =
     ∙ ap (λ nodes. record { nodes = nodes; copying = nothing_held }) (sym (nodes_more n))
 
 -- the fields at the start are those of a store
-pub first_store : (config : Config) (coord : Coordination) (stores : Stores) (known : Known) → ((st : State) → st.coord ≡ coord → st.copying.transfers ≡ map_of.empty → IsKnown known st) → is_config config ≡ true → coord ≡ first_coordination config.nodes config.segments config.owners → stores ≡ first_stores config.nodes
-    → IsStore (record { config = config; coord = coord; copies = stores; known = known })
-first_store config coord stores known first good is are = record {
+pub first_store : (config : Config) (coord : Coordination) (stores : Stores) (hints : Hints) → ((st : Holding) → st.coord ≡ coord → st.copying.transfers ≡ map_of.empty → AreHints hints st) → is_config config ≡ true → coord ≡ first_coordination config.nodes config.segments config.owners config.aim → stores ≡ first_stores config.nodes
+    → IsStore (record { config = config; coord = coord; copies = stores; hints = hints })
+first_store config coord stores hints first good is are = record {
   limits = good;
   nodes = λ n.
       ap (λ (x : Stores). set_of.contains x.nodes n) are
       ∙ first_there config.nodes n
       ∙ sym ((start_kept config (good_config config good)).told.live n)
       ∙ ap (λ (c : Coordination). lives c n) (sym is);
-  reached = subst (λ st. IsReached config st) (λ i. record (start config) { coord = sym is i; copying = (sym are i).copying }) (start_reached config);
-  known = first (record (start config) { coord = coord; copying = stores.copying }) refl (ap (λ (x : Stores). x.copying.transfers) are);
+  reached = subst (λ st. IsReached config st) (λ i. record (first_holding config) { coord = sym is i; copying = (sym are i).copying }) (start_reached config);
+  hints = first (record (first_holding config) { coord = coord; copying = stores.copying }) refl (ap (λ (x : Stores). x.copying.transfers) are);
 }

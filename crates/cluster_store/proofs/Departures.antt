@@ -1,10 +1,8 @@
 -- What a store becomes by departures and installations.
-use Rattle.std.proofs.Common.{◌≡◌, ℕ, ◌≤◌, ◌==◌, Bool, true, false, cond, not, ◌&&◌, ◌||◌, nat_lt, List, [], ◌∷◌, length, Option, Some, None, unwrap_or, refl, sym, ap, subst, ◌∙◌, inl, inr}
+use Rattle.std.proofs.Common.{◌≡◌, ℕ, ◌≤◌, ◌==◌, Bool, true, false, cond, not, ◌&&◌, ◌||◌, nat_lt, List, length, Option, Some, None, unwrap_or, refl, sym, ap, subst, ◌∙◌, inl, inr}
 use Rattle.std.proofs.lemmas.Bool.{and_parts, eq-eqb, eqb-true, false_from_ne_true, or_cases, true≢false}
 use Rattle.std.specs.Cmp.{nat_cmp_total, unsigned_tied}
-use Rattle.std.specs.FinMap as map_of
 use Rattle.std.specs.FinSet as set_of
-use Rattle.std.specs.Ordering.{nat_cmp}
 use Rattle.grid_event.specs.declared.event.Event.TheVariants as events
 use Rattle.state_transfer.specs.Calls.{ProvidesNone}
 use Rattle.state_transfer.specs.Chunks.{flies}
@@ -12,41 +10,32 @@ use Rattle.state_transfer.specs.Copying.{Copying, Stores, Transfer, Transfers, c
 use Rattle.state_transfer.specs.Leaving.{cancels, drops, forgets, outlives, restarts}
 use Rattle.state_transfer.proofs.LeavingLaws.{transfer-departs, transfer-drops}
 use Rattle.topology_coord.specs.Changes.{departs, installs, may_depart}
-use Rattle.topology_coord.specs.Coordination.{Coordination, lives, lost_segments, loses, some_live}
+use Rattle.topology_coord.specs.Coordination.{Coordination, lives, loses, some_live}
 use Rattle.topology_coord.proofs.Living.{holders_past}
 use Rattle.topology_coord.proofs.MemberLaws.{lives-departs, lives-installs}
 use Rattle.topology_phase.specs.Owners.{among}
 use Rattle.topology_phase.specs.Topologies.{IsTopology, Topology, write_owners}
 use Rattle.topology_phase.proofs.Tables.{held_is_written}
-use Rattle.cluster_model.specs.State.{Call, State}
-use Rattle.cluster_model.specs.Topologies.{can_depart, can_install, changed_calls, departed, each_call, installed, notes_losses}
-use Rattle.cluster_laws.proofs.Facts.{holders_old, receiver_written, turned}
-use Rattle.cluster_laws.proofs.ProviderSteps.{IsProvided}
-use Rattle.cluster_store.specs.Insides.{IsStore, state_of}
-use Rattle.cluster_store.specs.Known.{IsAhead, IsKnown, known_changed}
-use Rattle.cluster_store.specs.declared.known.Known.{Known}
-use Rattle.cluster_store.specs.declared.known.ahead.Ahead.{Ahead}
-use Rattle.cluster_store.specs.declared.known.ahead.Ahead.TheVariants.{Unknown}
+use Rattle.cluster_model.specs.State.{Holding}
+use Rattle.cluster_model.specs.Topologies.{can_depart, can_install, departed, installed}
+use Rattle.cluster_laws.proofs.copies.Facts.{holders_old, receiver_written, turned}
+use Rattle.cluster_laws.proofs.copies.ProviderSteps.{IsProvided}
+use Rattle.cluster_store.specs.Insides.{IsStore, holding_of}
+use Rattle.cluster_store.specs.Hints.{IsAhead, AreHints, hints_changed}
+use Rattle.cluster_store.specs.declared.hints.Hints.{Hints}
+use Rattle.cluster_store.specs.declared.hints.ahead.Ahead.{Ahead}
+use Rattle.cluster_store.specs.declared.hints.ahead.Ahead.TheVariants.{Unknown}
 use Rattle.cluster_store.specs.declared.store.Store.TheInside.{Inside}
-use Rattle.cluster_store.proofs.KnownLaws.{departs_none, known_later}
+use Rattle.cluster_store.proofs.HintLaws.{departs_none, hints_later}
 use Rattle.cluster_store.proofs.LeftCopies.{drops_within}
 use Rattle.cluster_store.proofs.Reached.{store_parts, store_providers}
 use Rattle.cluster_store.proofs.Rows.{Becomes, becomes}
 
 -- ---- departures
 
--- where no call was made, none changes
-no_calls : (change : ℕ → Call → Call) → each_call change map_of.empty ≡ map_of.empty
-unfolding each_call
-no_calls change = none_long (map_of.entries map_of.empty) (sym (map_of.len-entries map_of.empty) ∙ map_of.len-empty nat_cmp Call)
-  where
-    none_long : (calls : List (ℕ × Call)) → length calls ≡ 0 → changed_calls change calls ≡ map_of.empty
-    none_long [] e = refl
-    none_long (call ∷ calls) e = absurd (cc)
-
-pub depart_may : (fields : Inside) (st : State) (node : ℕ) → state_of fields ≡ st → can_depart st node ≡ true → may_depart fields.coord node ≡ true
+pub depart_may : (fields : Inside) (st : Holding) (node : ℕ) → holding_of fields ≡ st → can_depart st node ≡ true → may_depart fields.coord node ≡ true
 unfolding can_depart
-depart_may fields st node view may = ap (λ (x : State). may_depart x.coord node) view ∙ may
+depart_may fields st node view may = ap (λ (x : Holding). may_depart x.coord node) view ∙ may
 
 -- what is left of copies and transfers, step by step
 pub left_step : (before cancelled restarted forgotten : Stores) (node : ℕ) (lost : ℕ → Bool) → cancelled ≡ record before { copying = cancels node before.copying }
@@ -102,36 +91,34 @@ pub no_provider_left : (before forgotten : Stores) (node : ℕ) (lost : ℕ → 
     → (r s : ℕ) (v : Transfer) → transfer_to forgotten.copying.transfers r s ≡ Some v → has_ended v ≡ false → (v.provider == node) ≡ false
 no_provider_left = left_provider
 
-pub depart_row : (fields : Inside) (st : State) (node : ℕ) (lost : ℕ → Bool) (coord : Coordination) (forgotten stores : Stores) (known : Known) → IsStore fields → state_of fields ≡ st → can_depart st node ≡ true
+pub depart_row : (fields : Inside) (st : Holding) (node : ℕ) (lost : ℕ → Bool) (coord : Coordination) (forgotten stores : Stores) (hints : Hints) → IsStore fields → holding_of fields ≡ st → can_depart st node ≡ true
     → ((s : ℕ) → lost s ≡ loses fields.coord node s) → coord ≡ departs fields.coord node
     → forgotten ≡ record fields.copies { copying = forgets lost (restarts node (cancels node fields.copies.copying)) }
     → stores ≡ record { nodes = set_of.remove forgotten.nodes node; copying = drops node (λ _. true) forgotten.copying }
-    → known ≡ known_changed Unknown fields.known → Becomes (record fields { coord = coord; copies = stores; known = known }) (departed st node)
+    → hints ≡ hints_changed Unknown fields.hints → Becomes (record fields { coord = coord; copies = stores; hints = hints }) (departed st node)
 unfolding departed
-depart_row fields st node lost coord forgotten stores known h view may same is left are so =
+depart_row fields st node lost coord forgotten stores hints h view may same is left are so =
     let gone : stores ≡ record { nodes = set_of.remove fields.copies.nodes node; copying = drops node (λ _. true) (forgets lost (restarts node (cancels node fields.copies.copying))) } =
     are ∙ ap (λ (x : Stores). record { nodes = set_of.remove x.nodes node; copying = drops node (λ _. true) x.copying }) left in
-    becomes fields (record fields { coord = coord; copies = stores; known = known }) st (events.Depart node) h view may refl
+    becomes fields (record fields { coord = coord; copies = stores; hints = hints }) st (departed st node) (events.Depart node) h view (λ _. may) (λ _. refl) refl
     (λ n.
     ap (λ (x : Stores). set_of.contains x.nodes n) gone
     ∙ set_of.contains-remove nat_cmp_total fields.copies.nodes node n
     ∙ (λ i. not (unsigned_tied n node i) && h.nodes n i)
     ∙ sym (lives-departs fields.coord node n)
     ∙ ap (λ (x : Coordination). lives x n) (sym is))
-    ((λ i. record (state_of fields) { coord = is i; copying = (gone i).copying })
-    ∙ ap (λ f. record (state_of fields) { coord = departs fields.coord node; copying = drops node (λ _. true) (forgets f (restarts node (cancels node fields.copies.copying))) }) (λ i s. same s i)
-    ∙ ap (λ calls. record (state_of fields) { coord = departs fields.coord node; copying = drops node (λ _. true) (forgets (loses fields.coord node) (restarts node (cancels node fields.copies.copying))); calls = calls })
-    (sym (no_calls (notes_losses [] (lost_segments fields.coord node))))
-    ∙ ap (λ (x : State). departed x node) view)
-    (subst (λ k. IsKnown k (record (state_of fields) { coord = coord; copying = stores.copying })) (sym so)
-    (known_later fields.known (state_of fields) Unknown coord stores.copying tt
-    (λ r s none. ap (λ (x : Stores). flies (transfer_to x.copying.transfers r s)) gone ∙ departs_none node lost fields.copies.copying r s none) h.known))
+    ((λ i. record (holding_of fields) { coord = is i; copying = (gone i).copying })
+    ∙ ap (λ f. record (holding_of fields) { coord = departs fields.coord node; copying = drops node (λ _. true) (forgets f (restarts node (cancels node fields.copies.copying))) }) (λ i s. same s i)
+    ∙ ap (λ (x : Holding). departed x node) view)
+    (subst (λ k. AreHints k (record (holding_of fields) { coord = coord; copying = stores.copying })) (sym so)
+    (hints_later fields.hints (holding_of fields) Unknown coord stores.copying tt
+    (λ r s none. ap (λ (x : Stores). flies (transfer_to x.copying.transfers r s)) gone ∙ departs_none node lost fields.copies.copying r s none) h.hints))
 
 -- ---- installations
 
-pub install_may : (fields : Inside) (st : State) (node id : ℕ) → state_of fields ≡ st → can_install st node id ≡ true → lives fields.coord node ≡ true
+pub install_may : (fields : Inside) (st : Holding) (node id : ℕ) → holding_of fields ≡ st → can_install st node id ≡ true → lives fields.coord node ≡ true
 unfolding can_install
-install_may fields st node id view may = ap (λ (x : State). lives x.coord node) view ∙ (and_parts (lives st.coord node) _ may).0
+install_may fields st node id view may = ap (λ (x : Holding). lives x.coord node) view ∙ (and_parts (lives st.coord node) _ may).0
 
 newest_stays : (c : Coordination) (node : ℕ) → (installs c node).newest ≡ c.newest
 unfolding installs
@@ -173,12 +160,12 @@ no_copies_past : (fields : Inside) → IsStore fields → IsTopology fields.coor
 no_copies_past fields h kept node s j past =
     ((store_parts fields h).1.empty s (ap (some_live fields.coord) (holders_past fields.coord.newest s kept past))).no_copy node j
 
-pub install_row : (fields : Inside) (st : State) (node id : ℕ) (t : Topology) (coord : Coordination) (stores : Stores) (known : Known) (ahead : Ahead) → IsStore fields → state_of fields ≡ st → can_install st node id ≡ true
+pub install_row : (fields : Inside) (st : Holding) (node id : ℕ) (t : Topology) (coord : Coordination) (stores : Stores) (hints : Hints) (ahead : Ahead) → IsStore fields → holding_of fields ≡ st → can_install st node id ≡ true
     → coord ≡ installs fields.coord node → t ≡ fields.coord.newest → IsTopology t
     → stores ≡ record fields.copies { copying = drops node (λ s. nat_lt s (length t.current) && not (among node (write_owners t s))) fields.copies.copying }
-    → known ≡ known_changed ahead fields.known → IsAhead ahead coord → Becomes (record fields { coord = coord; copies = stores; known = known }) (installed st node id)
+    → hints ≡ hints_changed ahead fields.hints → IsAhead ahead coord → Becomes (record fields { coord = coord; copies = stores; hints = hints }) (installed st node id)
 unfolding installed
-install_row fields st node id t coord stores known ahead h view may is newest kept are so follows =
+install_row fields st node id t coord stores hints ahead h view may is newest kept are so follows =
     let live : lives fields.coord node ≡ true = install_may fields st node id view may in
     let dropped : stores ≡ record fields.copies { copying = drops node (λ s. not (among node (write_owners fields.coord.newest s))) fields.copies.copying } =
     are
@@ -186,21 +173,21 @@ install_row fields st node id t coord stores known ahead h view may is newest ke
     ∙ ap (λ (c : Copying). record fields.copies { copying = c })
     (drops_within node (λ s. not (among node (write_owners fields.coord.newest s))) (length fields.coord.newest.current) fields.copies.copying
     (λ s j past. no_copies_past fields h (subst (λ x. IsTopology x) newest kept) node s j past)) in
-    becomes fields (record fields { coord = coord; copies = stores; known = known }) st (events.Install node id) h view may refl
+    becomes fields (record fields { coord = coord; copies = stores; hints = hints }) st (installed st node id) (events.Install node id) h view (λ _. may) (λ _. refl) refl
     (λ n.
     ap (λ (x : Stores). set_of.contains x.nodes n) dropped
     ∙ h.nodes n
     ∙ lived (n == node) (lives fields.coord n) (λ same. ap (lives fields.coord) (eqb-true n node same) ∙ live)
     ∙ sym (lives-installs fields.coord node n)
     ∙ ap (λ (x : Coordination). lives x n) (sym is))
-    ((λ i. record (state_of fields) { coord = is i; copying = (dropped i).copying }) ∙ ap (λ (x : State). installed x node id) view)
-    (subst (λ k. IsKnown k (record (state_of fields) { coord = coord; copying = stores.copying })) (sym so)
-    (known_later fields.known (state_of fields) ahead coord stores.copying follows
+    ((λ i. record (holding_of fields) { coord = is i; copying = (dropped i).copying }) ∙ ap (λ (x : Holding). installed x node id) view)
+    (subst (λ k. AreHints k (record (holding_of fields) { coord = coord; copying = stores.copying })) (sym so)
+    (hints_later fields.hints (holding_of fields) ahead coord stores.copying follows
     (λ r s none.
     ap (λ (x : Stores). flies (transfer_to x.copying.transfers r s)) dropped
     ∙ ap (λ (ts : Transfers). flies (transfer_to ts r s)) (transfer-drops node (λ u. not (among node (write_owners fields.coord.newest u))) fields.copies.copying)
     ∙ none)
-    h.known))
+    h.hints))
   where
     lived : (same live : Bool) → (same ≡ true → live ≡ true) → live ≡ (same || live)
     lived true live h = h refl

@@ -4,7 +4,7 @@ pub mod LeftCopies
 pub mod Reached
 pub mod Beginnings
 pub mod SendingLaws
-pub mod KnownLaws
+pub mod HintLaws
 pub mod Landings
 pub mod Rows
 pub mod Departures

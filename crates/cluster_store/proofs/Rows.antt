@@ -27,51 +27,53 @@ use Rattle.topology_phase.specs.Phases.{same_phase}
 use Rattle.topology_phase.specs.Topologies.{Topology, write_owners}
 use Rattle.topology_phase.specs.declared.phase.Phase.TheVariants.{ReadOld}
 use Rattle.topology_phase.proofs.SameTopologies.{same_topology_is}
-use Rattle.cluster_model.specs.State.{State, segment_of}
+use Rattle.cluster_model.specs.State.{Calling, Holding, segment_of}
 use Rattle.cluster_model.specs.Step.{allowed, changed}
 use Rattle.cluster_model.specs.Topologies.{all_copied, announced, can_announce, can_join, is_that, joined, next_topology}
 use Rattle.cluster_model.specs.Transfers.{can_copy, can_land, copied, landed}
 use Rattle.cluster_model.specs.Writes.{can_change, can_erase, can_tick, can_write, changed_key, erased, is_deadline, is_of_kind, ticked, writers, written}
-use Rattle.cluster_laws.proofs.Facts.{turned}
-use Rattle.cluster_laws.proofs.ProviderSteps.{IsProvided}
-use Rattle.cluster_store.specs.Insides.{IsReached, IsStore, state_of}
-use Rattle.cluster_store.specs.Known.{IsAhead, IsKnown, IsPassed, known_announced, known_changed, known_landed, known_sent}
-use Rattle.cluster_store.specs.declared.known.Known.{Known}
-use Rattle.cluster_store.specs.declared.known.ahead.Ahead.{Ahead}
-use Rattle.cluster_store.specs.declared.known.place.Place.{Place}
+use Rattle.cluster_laws.proofs.copies.Facts.{turned}
+use Rattle.cluster_laws.proofs.copies.ProviderSteps.{IsProvided}
+use Rattle.cluster_store.specs.Insides.{IsReached, IsStore, holding_of}
+use Rattle.cluster_store.specs.Hints.{IsAhead, AreHints, IsPassed, hints_announced, hints_changed, hints_landed, hints_sent}
+use Rattle.cluster_store.specs.declared.hints.Hints.{Hints}
+use Rattle.cluster_store.specs.declared.hints.ahead.Ahead.{Ahead}
+use Rattle.cluster_store.specs.declared.hints.place.Place.{Place}
 use Rattle.cluster_store.specs.declared.store.Store.TheInside.{Inside}
-use Rattle.cluster_store.proofs.KnownLaws.{known_announces, known_changes, known_lands, known_later, known_sends, known_ticks}
+use Rattle.cluster_store.proofs.HintLaws.{hints_announces, hints_changes, hints_lands, hints_later, hints_sends, hints_ticks}
 use Rattle.cluster_store.proofs.Reached.{reached_next, store_parts, store_providers}
 
 -- the fields are those of a store, which is seen as this state
-pub record Becomes (later : Inside) (after : State) : Type 0 where
+pub record Becomes (later : Inside) (after : Holding) : Type 0 where
   pub store : IsStore later
-  pub seen : state_of later ≡ after
+  pub seen : holding_of later ≡ after
 
--- a store becomes what an event makes of it
-pub becomes : (fields later : Inside) (st : State) (event : Event) → IsStore fields → state_of fields ≡ st → allowed st event ≡ true → later.config ≡ fields.config
-    → ((node : ℕ) → set_of.contains later.copies.nodes node ≡ lives later.coord node) → state_of later ≡ changed st event → IsKnown later.known (state_of later) → Becomes later (changed st event)
-becomes fields later st event h view may config nodes is known =
+-- a store becomes what an event makes of what is held, whatever is asked
+pub becomes : (fields later : Inside) (st after : Holding) (event : Event) → IsStore fields → holding_of fields ≡ st → ((calling : Calling) → allowed (record { holding = st; calling = calling }) event ≡ true)
+    → ((calling : Calling) → (changed (record { holding = st; calling = calling }) event).holding ≡ after) → later.config ≡ fields.config
+    → ((node : ℕ) → set_of.contains later.copies.nodes node ≡ lives later.coord node) → holding_of later ≡ after → AreHints later.hints (holding_of later) → Becomes later after
+becomes fields later st after event h view may makes config nodes is hints =
     let before : IsReached fields.config st = subst (λ s. IsReached fields.config s) view h.reached in
-    let after : IsReached fields.config (state_of later) = subst (λ s. IsReached fields.config s) (sym is) (reached_next fields.config st event before may) in
+    let reached : IsReached fields.config (holding_of later) = subst (λ s. IsReached fields.config s) (sym is) (reached_next fields.config st after event before (may before.calling) (makes before.calling)) in
     record {
       store = record {
         limits = ap is_config config ∙ h.limits;
         nodes = nodes;
-        reached = subst (λ settings. IsReached settings (state_of later)) (sym config) after;
-        known = known;
+        reached = subst (λ settings. IsReached settings (holding_of later)) (sym config) reached;
+        hints = hints;
       };
       seen = is;
     }
 
 -- an event that changes copies and transfers alone
-copies_become : (fields : Inside) (stores : Stores) (copying : Copying) (known : Known) (st : State) (event : Event) → IsStore fields → state_of fields ≡ st → allowed st event ≡ true
-    → stores ≡ record fields.copies { copying = copying } → record (state_of fields) { copying = copying } ≡ changed (state_of fields) event
-    → IsKnown known (record (state_of fields) { copying = copying }) → Becomes (record fields { copies = stores; known = known }) (changed st event)
-copies_become fields stores copying known st event h view may are is so =
-    becomes fields (record fields { copies = stores; known = known }) st event h view may refl (λ node. ap (λ (x : Stores). set_of.contains x.nodes node) are ∙ h.nodes node)
-    (ap (λ (x : Stores). record (state_of fields) { copying = x.copying }) are ∙ is ∙ ap (λ s. changed s event) view)
-    (subst (λ (x : Stores). IsKnown known (record (state_of fields) { copying = x.copying })) (sym are) so)
+copies_become : (fields : Inside) (stores : Stores) (copying : Copying) (hints : Hints) (st : Holding) (change : Holding → Holding) (event : Event) → IsStore fields → holding_of fields ≡ st
+    → ((calling : Calling) → allowed (record { holding = st; calling = calling }) event ≡ true) → ((calling : Calling) → (changed (record { holding = st; calling = calling }) event).holding ≡ change st)
+    → stores ≡ record fields.copies { copying = copying } → record (holding_of fields) { copying = copying } ≡ change (holding_of fields)
+    → AreHints hints (record (holding_of fields) { copying = copying }) → Becomes (record fields { copies = stores; hints = hints }) (change st)
+copies_become fields stores copying hints st change event h view may makes are is so =
+    becomes fields (record fields { copies = stores; hints = hints }) st (change st) event h view may makes refl (λ node. ap (λ (x : Stores). set_of.contains x.nodes node) are ∙ h.nodes node)
+    (ap (λ (x : Stores). record (holding_of fields) { copying = x.copying }) are ∙ is ∙ ap change view)
+    (subst (λ (x : Stores). AreHints hints (record (holding_of fields) { copying = x.copying })) (sym are) so)
 
 -- ---- writes and erasures
 
@@ -79,44 +81,44 @@ copies_become fields stores copying known st event h view may are is so =
 pub live_there : (fields : Inside) → IsStore fields → (owners : List ℕ) → pruned (set_of.contains fields.copies.nodes) owners ≡ live_of fields.coord owners
 live_there fields h owners = ap (λ f. filter f owners) (λ i node. h.nodes node i)
 
-changed_at : (st : State) (n s : ℕ) (k : List ℕ) (o : Option Stamped) (found : Option ℕ) → found ≡ Some s → record st { copying = changes (writers st n s) s k o st.copying } ≡ changed_key st n k o found
+changed_at : (st : Holding) (n s : ℕ) (k : List ℕ) (o : Option Stamped) (found : Option ℕ) → found ≡ Some s → record st { copying = changes (writers st n s) s k o st.copying } ≡ changed_key st n k o found
 changed_at st n s k o found is = ap (changed_key st n k o) (sym is)
 
-pub write_row : (fields : Inside) (st : State) (w : WriteEvent) (s : ℕ) (stores : Stores) → IsStore fields → state_of fields ≡ st → can_write st w ≡ true → segment_of st w.key ≡ Some s
+pub write_row : (fields : Inside) (st : Holding) (w : WriteEvent) (s : ℕ) (stores : Stores) → IsStore fields → holding_of fields ≡ st → can_write st w ≡ true → segment_of st w.key ≡ Some s
     → stores ≡ record fields.copies { copying = changes (pruned (set_of.contains fields.copies.nodes) (write_owners (topology_of st.coord w.node) s)) s w.key (Some (record { value = w.value; until = w.until })) fields.copies.copying }
     → Becomes (record fields { copies = stores }) (written st w)
 unfolding written
 write_row fields st w s stores h view may segment are =
     copies_become fields stores (changes (pruned (set_of.contains fields.copies.nodes) (write_owners (topology_of st.coord w.node) s)) s w.key (Some (record { value = w.value; until = w.until })) fields.copies.copying)
-    fields.known st (events.Write w) h view may are
-    (ap (λ owners. record (state_of fields) { copying = changes owners s w.key (Some (record { value = w.value; until = w.until })) fields.copies.copying })
-    (live_there fields h (write_owners (topology_of st.coord w.node) s) ∙ ap (λ (x : State). live_of fields.coord (write_owners (topology_of x.coord w.node) s)) (sym view))
-    ∙ changed_at (state_of fields) w.node s w.key (Some (record { value = w.value; until = w.until })) (segment_of (state_of fields) w.key) (ap (λ (x : State). segment_of x w.key) view ∙ segment))
-    (known_changes fields.known (state_of fields) (pruned (set_of.contains fields.copies.nodes) (write_owners (topology_of st.coord w.node) s)) s w.key (Some (record { value = w.value; until = w.until })) h.known)
+    fields.hints st (λ (x : Holding). written x w) (events.Write w) h view (λ _. may) (λ _. refl) are
+    (ap (λ owners. record (holding_of fields) { copying = changes owners s w.key (Some (record { value = w.value; until = w.until })) fields.copies.copying })
+    (live_there fields h (write_owners (topology_of st.coord w.node) s) ∙ ap (λ (x : Holding). live_of fields.coord (write_owners (topology_of x.coord w.node) s)) (sym view))
+    ∙ changed_at (holding_of fields) w.node s w.key (Some (record { value = w.value; until = w.until })) (segment_of (holding_of fields) w.key) (ap (λ (x : Holding). segment_of x w.key) view ∙ segment))
+    (hints_changes fields.hints (holding_of fields) (pruned (set_of.contains fields.copies.nodes) (write_owners (topology_of st.coord w.node) s)) s w.key (Some (record { value = w.value; until = w.until })) h.hints)
 
-pub erase_row : (fields : Inside) (st : State) (e : EraseEvent) (s : ℕ) (stores : Stores) → IsStore fields → state_of fields ≡ st → can_erase st e ≡ true → segment_of st e.key ≡ Some s
+pub erase_row : (fields : Inside) (st : Holding) (e : EraseEvent) (s : ℕ) (stores : Stores) → IsStore fields → holding_of fields ≡ st → can_erase st e ≡ true → segment_of st e.key ≡ Some s
     → stores ≡ record fields.copies { copying = changes (pruned (set_of.contains fields.copies.nodes) (write_owners (topology_of st.coord e.node) s)) s e.key None fields.copies.copying }
     → Becomes (record fields { copies = stores }) (erased st e)
 unfolding erased
 erase_row fields st e s stores h view may segment are =
     copies_become fields stores (changes (pruned (set_of.contains fields.copies.nodes) (write_owners (topology_of st.coord e.node) s)) s e.key None fields.copies.copying)
-    fields.known st (events.Erase e) h view may are
-    (ap (λ owners. record (state_of fields) { copying = changes owners s e.key None fields.copies.copying })
-    (live_there fields h (write_owners (topology_of st.coord e.node) s) ∙ ap (λ (x : State). live_of fields.coord (write_owners (topology_of x.coord e.node) s)) (sym view))
-    ∙ changed_at (state_of fields) e.node s e.key None (segment_of (state_of fields) e.key) (ap (λ (x : State). segment_of x e.key) view ∙ segment))
-    (known_changes fields.known (state_of fields) (pruned (set_of.contains fields.copies.nodes) (write_owners (topology_of st.coord e.node) s)) s e.key None h.known)
+    fields.hints st (λ (x : Holding). erased x e) (events.Erase e) h view (λ _. may) (λ _. refl) are
+    (ap (λ owners. record (holding_of fields) { copying = changes owners s e.key None fields.copies.copying })
+    (live_there fields h (write_owners (topology_of st.coord e.node) s) ∙ ap (λ (x : Holding). live_of fields.coord (write_owners (topology_of x.coord e.node) s)) (sym view))
+    ∙ changed_at (holding_of fields) e.node s e.key None (segment_of (holding_of fields) e.key) (ap (λ (x : Holding). segment_of x e.key) view ∙ segment))
+    (hints_changes fields.hints (holding_of fields) (pruned (set_of.contains fields.copies.nodes) (write_owners (topology_of st.coord e.node) s)) s e.key None h.hints)
 
 -- a key without a segment is changed nowhere
-pub written_nowhere : (st : State) (w : WriteEvent) → segment_of st w.key ≡ None → st ≡ written st w
+pub written_nowhere : (st : Holding) (w : WriteEvent) → segment_of st w.key ≡ None → st ≡ written st w
 unfolding written
 written_nowhere st w none = ap (changed_key st w.node w.key (Some (record { value = w.value; until = w.until }))) (sym none)
 
-pub erased_nowhere : (st : State) (e : EraseEvent) → segment_of st e.key ≡ None → st ≡ erased st e
+pub erased_nowhere : (st : Holding) (e : EraseEvent) → segment_of st e.key ≡ None → st ≡ erased st e
 unfolding erased
 erased_nowhere st e none = ap (changed_key st e.node e.key None) (sym none)
 
 -- a deadline that may be written is none or above the clock
-pub write_lasts : (st : State) (w : WriteEvent) → can_write st w ≡ true → outlasts st.copying.clock w.until ≡ true
+pub write_lasts : (st : Holding) (w : WriteEvent) → can_write st w ≡ true → outlasts st.copying.clock w.until ≡ true
 unfolding can_write
 write_lasts st w may =
     let parts = and_parts (can_change st w.node w.key) _ may in
@@ -128,48 +130,48 @@ write_lasts st w may =
 
 -- ---- ticks
 
-pub tick_fits : (st : State) (number : ℕ) → can_tick st number ≡ true → st.copying.clock + number ≤ LAST_CLOCK
+pub tick_fits : (st : Holding) (number : ℕ) → can_tick st number ≡ true → st.copying.clock + number ≤ LAST_CLOCK
 unfolding can_tick
 tick_fits st number may =
     let parts = and_parts (nat_le 1 number) _ may in
     leb-true (st.copying.clock + number) LAST_CLOCK (and_parts (nat_le number LONGEST_LIFESPAN) (nat_le (st.copying.clock + number) LAST_CLOCK) parts.1).1
 
-pub tick_row : (fields : Inside) (st : State) (number clock : ℕ) (stores : Stores) → IsStore fields → state_of fields ≡ st → can_tick st number ≡ true → clock ≡ fields.copies.copying.clock + number
+pub tick_row : (fields : Inside) (st : Holding) (number clock : ℕ) (stores : Stores) → IsStore fields → holding_of fields ≡ st → can_tick st number ≡ true → clock ≡ fields.copies.copying.clock + number
     → stores ≡ record fields.copies { copying = ticks clock fields.copies.copying } → Becomes (record fields { copies = stores }) (ticked st number)
 unfolding ticked
 tick_row fields st number clock stores h view may is are =
-    copies_become fields stores (ticks clock fields.copies.copying) fields.known st (events.Tick number) h view may are
-    (ap (λ n. record (state_of fields) { copying = ticks n fields.copies.copying }) is) (known_ticks fields.known (state_of fields) clock h.known)
+    copies_become fields stores (ticks clock fields.copies.copying) fields.hints st (λ (x : Holding). ticked x number) (events.Tick number) h view (λ _. may) (λ _. refl) are
+    (ap (λ n. record (holding_of fields) { copying = ticks n fields.copies.copying }) is) (hints_ticks fields.hints (holding_of fields) clock h.hints)
 
 -- ---- chunks
 
-pub land_row : (fields : Inside) (st : State) (r s : ℕ) (stores : Stores) (known : Known) → IsStore fields → state_of fields ≡ st → can_land st r s ≡ true
-    → stores ≡ record fields.copies { copying = lands r s fields.copies.copying } → known ≡ known_landed r s fields.known → Becomes (record fields { copies = stores; known = known }) (landed st r s)
+pub land_row : (fields : Inside) (st : Holding) (r s : ℕ) (stores : Stores) (hints : Hints) → IsStore fields → holding_of fields ≡ st → can_land st r s ≡ true
+    → stores ≡ record fields.copies { copying = lands r s fields.copies.copying } → hints ≡ hints_landed r s fields.hints → Becomes (record fields { copies = stores; hints = hints }) (landed st r s)
 unfolding landed
-land_row fields st r s stores known h view may are so =
-    copies_become fields stores (lands r s fields.copies.copying) known st (events.Land r s) h view may are refl
-    (subst (λ k. IsKnown k (record (state_of fields) { copying = lands r s fields.copies.copying })) (sym so) (known_lands fields.known (state_of fields) r s h.known))
+land_row fields st r s stores hints h view may are so =
+    copies_become fields stores (lands r s fields.copies.copying) hints st (λ (x : Holding). landed x r s) (events.Land r s) h view (λ _. may) (λ _. refl) are refl
+    (subst (λ k. AreHints k (record (holding_of fields) { copying = lands r s fields.copies.copying })) (sym so) (hints_lands fields.hints (holding_of fields) r s h.hints))
 
-pub copy_row : (fields : Inside) (st : State) (e : CopyEvent) (stores : Stores) (known : Known) → IsStore fields → state_of fields ≡ st → can_copy st e ≡ true
-    → stores ≡ record fields.copies { copying = sends e.receiver e.segment e.provider e.batch fields.copies.copying } → known ≡ known_sent e.receiver e.segment fields.known
-    → Becomes (record fields { copies = stores; known = known }) (copied st e)
+pub copy_row : (fields : Inside) (st : Holding) (e : CopyEvent) (stores : Stores) (hints : Hints) → IsStore fields → holding_of fields ≡ st → can_copy st e ≡ true
+    → stores ≡ record fields.copies { copying = sends e.receiver e.segment e.provider e.batch fields.copies.copying } → hints ≡ hints_sent e.receiver e.segment fields.hints
+    → Becomes (record fields { copies = stores; hints = hints }) (copied st e)
 unfolding copied
-copy_row fields st e stores known h view may are so =
-    copies_become fields stores (sends e.receiver e.segment e.provider e.batch fields.copies.copying) known st (events.Copy e) h view may are refl
-    (subst (λ k. IsKnown k (record (state_of fields) { copying = sends e.receiver e.segment e.provider e.batch fields.copies.copying })) (sym so)
-    (known_sends fields.known (state_of fields) e.receiver e.segment e.provider e.batch h.known))
+copy_row fields st e stores hints h view may are so =
+    copies_become fields stores (sends e.receiver e.segment e.provider e.batch fields.copies.copying) hints st (λ (x : Holding). copied x e) (events.Copy e) h view (λ _. may) (λ _. refl) are refl
+    (subst (λ k. AreHints k (record (holding_of fields) { copying = sends e.receiver e.segment e.provider e.batch fields.copies.copying })) (sym so)
+    (hints_sends fields.hints (holding_of fields) e.receiver e.segment e.provider e.batch h.hints))
 
 -- no chunk may be sent before a place, where that is so in the state
-pub passed_row : (fields : Inside) (st : State) (place : Place) → IsStore fields → state_of fields ≡ st → IsPassed st place.receiver place.segment
-    → Becomes (record fields { known = record fields.known { from = place } }) st
+pub passed_row : (fields : Inside) (st : Holding) (place : Place) → IsStore fields → holding_of fields ≡ st → IsPassed st place.receiver place.segment
+    → Becomes (record fields { hints = record fields.hints { from = place } }) st
 passed_row fields st place h view passed = record {
   store = record {
     limits = h.limits;
     nodes = h.nodes;
     reached = h.reached;
-    known = record {
-      ahead = h.known.ahead;
-      flying = h.known.flying;
+    hints = record {
+      ahead = h.hints.ahead;
+      flying = h.hints.flying;
       passed = subst (λ s. IsPassed s place.receiver place.segment) (sym view) passed;
     };
   };
@@ -178,9 +180,9 @@ passed_row fields st place h view passed = record {
 
 -- ---- joins
 
-pub join_may : (fields : Inside) (st : State) (node : ℕ) → state_of fields ≡ st → can_join st node ≡ true → may_join fields.coord node ≡ true
+pub join_may : (fields : Inside) (st : Holding) (node : ℕ) → holding_of fields ≡ st → can_join st node ≡ true → may_join fields.coord node ≡ true
 unfolding can_join
-join_may fields st node view may = ap (λ (x : State). may_join x.coord node) view ∙ may
+join_may fields st node view may = ap (λ (x : Holding). may_join x.coord node) view ∙ may
 
 never_member : (c : Coordination) (node : ℕ) → may_join c node ≡ true → set_of.contains c.ever node ≡ false
 never_member c node may = turned (set_of.contains c.ever node) (and_parts (not (set_of.contains c.ever node)) _ may).0
@@ -197,21 +199,21 @@ join_provides fields node h may s r v there =
     let provided : IsProvided fields.coord v.provider s = store_providers fields h r s v there in
     false_from_ne_true (v.provider == node) (λ same. true≢false (sym provided.member ∙ ap (set_of.contains fields.coord.ever) (eqb-true v.provider node same) ∙ never_member fields.coord node may))
 
-pub join_row : (fields : Inside) (st : State) (node : ℕ) (coord : Coordination) (stores : Stores) (known : Known) (ahead : Ahead) → IsStore fields → state_of fields ≡ st → can_join st node ≡ true
+pub join_row : (fields : Inside) (st : Holding) (node : ℕ) (coord : Coordination) (stores : Stores) (hints : Hints) (ahead : Ahead) → IsStore fields → holding_of fields ≡ st → can_join st node ≡ true
     → coord ≡ joins fields.coord node → stores ≡ record fields.copies { nodes = set_of.insert fields.copies.nodes node }
-    → known ≡ known_changed ahead fields.known → IsAhead ahead coord → Becomes (record fields { coord = coord; copies = stores; known = known }) (joined st node)
+    → hints ≡ hints_changed ahead fields.hints → IsAhead ahead coord → Becomes (record fields { coord = coord; copies = stores; hints = hints }) (joined st node)
 unfolding joined
-join_row fields st node coord stores known ahead h view may is are so follows =
-    becomes fields (record fields { coord = coord; copies = stores; known = known }) st (events.Join node) h view may refl
+join_row fields st node coord stores hints ahead h view may is are so follows =
+    becomes fields (record fields { coord = coord; copies = stores; hints = hints }) st (joined st node) (events.Join node) h view (λ _. may) (λ _. refl) refl
     (λ n.
     ap (λ (x : Stores). set_of.contains x.nodes n) are
     ∙ set_of.contains-insert nat_cmp_total fields.copies.nodes node n
     ∙ (λ i. unsigned_tied n node i || h.nodes n i)
     ∙ sym (lives-joins fields.coord node n)
     ∙ ap (λ (x : Coordination). lives x n) (sym is))
-    ((λ i. record (state_of fields) { coord = is i; copying = (are i).copying }) ∙ ap (λ (x : State). record x { coord = joins x.coord node }) view)
-    (subst (λ k. IsKnown k (record (state_of fields) { coord = coord; copying = stores.copying })) (sym so)
-    (known_later fields.known (state_of fields) ahead coord stores.copying follows (λ r s none. ap (λ (x : Stores). flies (transfer_to x.copying.transfers r s)) are ∙ none) h.known))
+    ((λ i. record (holding_of fields) { coord = is i; copying = (are i).copying }) ∙ ap (λ (x : Holding). record x { coord = joins x.coord node }) view)
+    (subst (λ k. AreHints k (record (holding_of fields) { coord = coord; copying = stores.copying })) (sym so)
+    (hints_later fields.hints (holding_of fields) ahead coord stores.copying follows (λ r s none. ap (λ (x : Stores). flies (transfer_to x.copying.transfers r s)) are ∙ none) h.hints))
 
 -- ---- announcements
 
@@ -220,19 +222,19 @@ is_that_one t None h = absurd (cc)
 is_that_one t (Some other) h = ap (λ x. Some x) (sym (same_topology_is t other h))
 
 -- what may be announced is the next topology
-pub announce_next : (fields : Inside) (st : State) (t : Topology) → state_of fields ≡ st → can_announce st t ≡ true → following (all_copied (state_of fields)) fields.coord ≡ Some t
+pub announce_next : (fields : Inside) (st : Holding) (t : Topology) → holding_of fields ≡ st → can_announce st t ≡ true → following (all_copied (holding_of fields)) fields.coord ≡ Some t
 unfolding can_announce
-announce_next fields st t view may = ap (λ (x : State). next_topology x) view ∙ is_that_one t (next_topology st) may
+announce_next fields st t view may = ap (λ (x : Holding). next_topology x) view ∙ is_that_one t (next_topology st) may
 
-pub announce_row : (fields : Inside) (st : State) (t : Topology) (coord : Coordination) (stores : Stores) (known : Known) → IsStore fields → state_of fields ≡ st → can_announce st t ≡ true
+pub announce_row : (fields : Inside) (st : Holding) (t : Topology) (coord : Coordination) (stores : Stores) (hints : Hints) → IsStore fields → holding_of fields ≡ st → can_announce st t ≡ true
     → coord ≡ announces fields.coord t → stores ≡ record fields.copies { copying = cond (same_phase t.phase ReadOld) fields.copies.copying (closes fields.copies.copying) }
-    → known ≡ known_announced (same_phase t.phase ReadOld) fields.known → Becomes (record fields { coord = coord; copies = stores; known = known }) (announced st t)
+    → hints ≡ hints_announced (same_phase t.phase ReadOld) fields.hints → Becomes (record fields { coord = coord; copies = stores; hints = hints }) (announced st t)
 unfolding announced announces
-announce_row fields st t coord stores known h view may is are so =
-    becomes fields (record fields { coord = coord; copies = stores; known = known }) st (events.Announce t) h view may refl
+announce_row fields st t coord stores hints h view may is are so =
+    becomes fields (record fields { coord = coord; copies = stores; hints = hints }) st (announced st t) (events.Announce t) h view (λ _. may) (λ _. refl) refl
     (λ n. ap (λ (x : Stores). set_of.contains x.nodes n) are ∙ h.nodes n ∙ ap (λ (x : Coordination). lives x n) (sym is))
-    ((λ i. record (state_of fields) { coord = is i; copying = (are i).copying })
-    ∙ ap (λ (x : State). record x { coord = announces x.coord t; copying = cond (same_phase t.phase ReadOld) x.copying (closes x.copying) }) view)
-    (subst (λ k. IsKnown k (record (state_of fields) { coord = coord; copying = stores.copying })) (sym so)
-    (subst (λ (x : Stores). IsKnown (known_announced (same_phase t.phase ReadOld) fields.known) (record (state_of fields) { coord = coord; copying = x.copying })) (sym are)
-    (known_announces fields.known (state_of fields) (same_phase t.phase ReadOld) coord h.known)))
+    ((λ i. record (holding_of fields) { coord = is i; copying = (are i).copying })
+    ∙ ap (λ (x : Holding). record x { coord = announces x.coord t; copying = cond (same_phase t.phase ReadOld) x.copying (closes x.copying) }) view)
+    (subst (λ k. AreHints k (record (holding_of fields) { coord = coord; copying = stores.copying })) (sym so)
+    (subst (λ (x : Stores). AreHints (hints_announced (same_phase t.phase ReadOld) fields.hints) (record (holding_of fields) { coord = coord; copying = x.copying })) (sym are)
+    (hints_announces fields.hints (holding_of fields) (same_phase t.phase ReadOld) coord h.hints)))

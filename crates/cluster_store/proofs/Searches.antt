@@ -8,7 +8,7 @@ use Rattle.std.specs.List.{find, flat_map, list_all, list_any, range_with_len}
 use Rattle.grid_event.specs.declared.event.Event.{Event}
 use Rattle.topology_coord.specs.Coordination.{live_nodes}
 use Rattle.cluster_model.specs.Commands.{destinations, first_some, or_else}
-use Rattle.cluster_model.specs.State.{State, segments_of}
+use Rattle.cluster_model.specs.State.{Holding, segments_of}
 
 -- from a place on a list goes on with what stands there
 from_place : (xs : List ℕ) (i x : ℕ) → i < length xs → get_or xs i 0 ≡ x → drop i xs ≡ x ∷ drop (i + 1) xs
@@ -150,5 +150,5 @@ some_within f segments (node ∷ nodes) =
     ∙ (λ i. or_else (some_map (λ (d : ℕ × ℕ). f d.0 d.1) (λ segment. (node, segment)) segments i) (some_within f segments nodes i))
 
 -- the first of the receivers and segments is the first segment of the first receiver
-pub some_destination : (st : State) (f : ℕ → ℕ → Option Event) → first_some (λ (d : ℕ × ℕ). f d.0 d.1) (destinations st) ≡ first_some (λ node. first_some (f node) (segments_of st)) (live_nodes st.coord)
+pub some_destination : (st : Holding) (f : ℕ → ℕ → Option Event) → first_some (λ (d : ℕ × ℕ). f d.0 d.1) (destinations st) ≡ first_some (λ node. first_some (f node) (segments_of st)) (live_nodes st.coord)
 some_destination st f = some_within f (segments_of st) (live_nodes st.coord)

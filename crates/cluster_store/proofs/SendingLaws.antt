@@ -18,15 +18,16 @@ use Rattle.topology_coord.specs.Following.{receives}
 use Rattle.topology_phase.specs.Owners.{among, owners_at}
 use Rattle.topology_phase.specs.Phases.{same_phase}
 use Rattle.topology_phase.specs.declared.phase.Phase.TheVariants.{ReadOld}
-use Rattle.cluster_model.specs.Commands.{copy_event, if_any_allowed}
+use Rattle.std.specs.Option.{option_and_then}
+use Rattle.cluster_model.specs.Commands.{copy_event, copy_of, copy_with}
 use Rattle.cluster_model.specs.Same.{same_chunk}
-use Rattle.cluster_model.specs.State.{State}
+use Rattle.cluster_model.specs.State.{Holding}
 use Rattle.cluster_model.specs.Transfers.{can_copy, is_provided, next_chunk_of, provider, transfer_of}
-use Rattle.cluster_laws.proofs.ProviderSteps.{IsProvided}
-use Rattle.cluster_laws.proofs.Requests.{is_sending}
-use Rattle.cluster_laws.proofs.SameChunks.{same_chunk_is, same_chunk_itself}
-use Rattle.cluster_laws.proofs.TransferSteps.{IsSending}
-use Rattle.cluster_store.specs.Insides.{IsStore, state_of}
+use Rattle.cluster_laws.proofs.copies.ProviderSteps.{IsProvided}
+use Rattle.cluster_laws.proofs.copies.Requests.{is_sending}
+use Rattle.cluster_laws.proofs.copies.SameChunks.{same_chunk_is, same_chunk_itself}
+use Rattle.cluster_laws.proofs.copies.TransferSteps.{IsSending}
+use Rattle.cluster_store.specs.Insides.{IsStore, holding_of}
 use Rattle.cluster_store.specs.Sending.{sender}
 use Rattle.cluster_store.specs.declared.store.Store.TheInside.{Inside}
 use Rattle.cluster_store.proofs.Reached.{store_parts, store_providers}
@@ -36,13 +37,13 @@ if_some true o x e = (refl, e)
 if_some false o x e = absurd (cc)
 
 -- what is known of a sender
-pub record IsSender (st : State) (r s q : ℕ) : Type 0 where
+pub record IsSender (st : Holding) (r s q : ℕ) : Type 0 where
   pub installed : all_installed st.coord ≡ true
   pub receiving : receives st.coord r s ≡ true
   pub may : may_send (transfer_of st r s) ≡ true
   pub gives : provider st r s ≡ Some q
 
-pub is_sender : (st : State) (r s q : ℕ) → sender st r s ≡ Some q → IsSender st r s q
+pub is_sender : (st : Holding) (r s q : ℕ) → sender st r s ≡ Some q → IsSender st r s q
 unfolding sender
 is_sender st r s q e =
     let parts = if_some (all_installed st.coord && (receives st.coord r s && may_send (transfer_of st r s))) (provider st r s) q e in
@@ -59,7 +60,7 @@ apart_tests true false c p o s = refl
 apart_tests false b c p o s = refl
 
 -- a chunk may be sent where its provider is the sender, and it is the next one
-pub can_copy-sender : (st : State) (e : CopyEvent) → can_copy st e ≡ (is_provided e.provider (sender st e.receiver e.segment) && same_chunk e.batch (next_chunk_of st e.receiver e.segment e.provider))
+pub can_copy-sender : (st : Holding) (e : CopyEvent) → can_copy st e ≡ (is_provided e.provider (sender st e.receiver e.segment) && same_chunk e.batch (next_chunk_of st e.receiver e.segment e.provider))
 unfolding can_copy sender
 can_copy-sender st e =
     apart_tests (all_installed st.coord) (receives st.coord e.receiver e.segment) (may_send (transfer_of st e.receiver e.segment)) e.provider (provider st e.receiver e.segment)
@@ -70,18 +71,14 @@ is_provider q None h = absurd (cc)
 is_provider q (Some other) h = ap (λ n. Some n) (sym (eqb-true q other h))
 
 -- a copy that may happen is sent by the sender, and is the next chunk
-pub copy_parts : (st : State) (e : CopyEvent) → can_copy st e ≡ true → (sender st e.receiver e.segment ≡ Some e.provider) × (e.batch ≡ next_chunk_of st e.receiver e.segment e.provider)
+pub copy_parts : (st : Holding) (e : CopyEvent) → can_copy st e ≡ true → (sender st e.receiver e.segment ≡ Some e.provider) × (e.batch ≡ next_chunk_of st e.receiver e.segment e.provider)
 copy_parts st e can =
     let parts = and_parts (is_provided e.provider (sender st e.receiver e.segment)) (same_chunk e.batch (next_chunk_of st e.receiver e.segment e.provider)) (sym (can_copy-sender st e) ∙ can) in
     (is_provider e.provider (sender st e.receiver e.segment) parts.0, same_chunk_is e.batch (next_chunk_of st e.receiver e.segment e.provider) parts.1)
 
--- the copy of the next chunk by a node
-abbrev pub copy_with : State → ℕ → ℕ → ℕ → CopyEvent
-copy_with st r s q = record { receiver = r; segment = s; provider = q; batch = next_chunk_of st r s q }
-
-own_chunk : (st : State) (r s q : ℕ) → can_copy st (copy_with st r s q) ≡ is_provided q (sender st r s)
+own_chunk : (st : Holding) (r s q : ℕ) → can_copy st (copy_of st r s q) ≡ is_provided q (sender st r s)
 own_chunk st r s q =
-    can_copy-sender st (copy_with st r s q)
+    can_copy-sender st (copy_of st r s q)
     ∙ ap (λ b. is_provided q (sender st r s) && b) (same_chunk_itself (next_chunk_of st r s q))
     ∙ and_true (is_provided q (sender st r s))
   where
@@ -90,31 +87,31 @@ own_chunk st r s q =
     and_true false = refl
 
 -- the event of a copy is that of the sender
-pub copy_event-sender : (st : State) (r s : ℕ) → copy_event st r s ≡ option_map (λ q. events.Copy (copy_with st r s q)) (sender st r s)
+pub copy_event-sender : (st : Holding) (r s : ℕ) → copy_event st r s ≡ option_map (λ q. events.Copy (copy_of st r s q)) (sender st r s)
 unfolding sender
 copy_event-sender st r s = by_provider (all_installed st.coord && (receives st.coord r s && may_send (transfer_of st r s))) (provider st r s) refl refl
   where
     by_provider : (b : Bool) (found : Option ℕ) → (all_installed st.coord && (receives st.coord r s && may_send (transfer_of st r s))) ≡ b → provider st r s ≡ found
-        → if_any_allowed st (option_map (λ q. events.Copy (copy_with st r s q)) found) ≡ option_map (λ q. events.Copy (copy_with st r s q)) (if b then found else None)
+        → option_and_then (copy_with st r s) found ≡ option_map (λ q. events.Copy (copy_of st r s q)) (if b then found else None)
     by_provider true None may is = refl
     by_provider false None may is = refl
     by_provider true (Some q) may is =
-        ap (λ b. if b then Some (events.Copy (copy_with st r s q)) else None)
+        ap (λ b. if b then Some (events.Copy (copy_of st r s q)) else None)
         (own_chunk st r s q ∙ (λ i. is_provided q (if may i then is i else None)) ∙ eq-eqb q q refl)
     by_provider false (Some q) may is =
-        ap (λ b. if b then Some (events.Copy (copy_with st r s q)) else None)
+        ap (λ b. if b then Some (events.Copy (copy_of st r s q)) else None)
         (own_chunk st r s q ∙ (λ i. is_provided q (if may i then is i else None)))
 
 -- where there is no sender, there is none
-pub copy_event-none : (st : State) (r s : ℕ) → sender st r s ≡ None → copy_event st r s ≡ None
-copy_event-none st r s none = copy_event-sender st r s ∙ ap (option_map (λ q. events.Copy (copy_with st r s q))) none
+pub copy_event-none : (st : Holding) (r s : ℕ) → sender st r s ≡ None → copy_event st r s ≡ None
+copy_event-none st r s none = copy_event-sender st r s ∙ ap (option_map (λ q. events.Copy (copy_of st r s q))) none
 
 -- no chunk is sent but in the first phase of a rebalance, where all live nodes have the newest topology
 and_false : (b : Bool) → (b && false) ≡ false
 and_false true = refl
 and_false false = refl
 
-pub unphased_sends : (st : State) → same_phase st.coord.newest.phase ReadOld ≡ false → (r s : ℕ) → sender st r s ≡ None
+pub unphased_sends : (st : Holding) → same_phase st.coord.newest.phase ReadOld ≡ false → (r s : ℕ) → sender st r s ≡ None
 unfolding sender
 unphased_sends st off r s =
     ap
@@ -125,7 +122,7 @@ unphased_sends st off r s =
     else None) off
     ∙ ap (λ b. if b then provider st r s else None) (and_false (all_installed st.coord))
 
-pub uninstalled_sends : (st : State) → all_installed st.coord ≡ false → (r s : ℕ) → sender st r s ≡ None
+pub uninstalled_sends : (st : Holding) → all_installed st.coord ≡ false → (r s : ℕ) → sender st r s ≡ None
 unfolding sender
 uninstalled_sends st off r s = ap (λ b. if b && (receives st.coord r s && may_send (transfer_of st r s)) then provider st r s else None) off
 
@@ -157,9 +154,9 @@ none_by : (found : Option Transfer) → ((v : Transfer) → found ≡ Some v →
 none_by None never = refl
 none_by (Some v) never = absurd (never v refl)
 
-pub ready : (fields : Inside) → IsStore fields → (r s q : ℕ) → sender (state_of fields) r s ≡ Some q → IsReady fields r s q
+pub ready : (fields : Inside) → IsStore fields → (r s q : ℕ) → sender (holding_of fields) r s ≡ Some q → IsReady fields r s q
 ready fields h r s q e =
-    let st : State = state_of fields in
+    let st : Holding = holding_of fields in
     let is : IsSender st r s q = is_sender st r s q e in
     let kept = store_parts fields h in
     let go : IsSending st.coord st.copying kept.0 r s q (chunk_of st.copying r s q st.config.chunk) (transfer_to st.copying.transfers r s) =
@@ -181,16 +178,16 @@ ready fields h r s q e =
     }
 
 -- so it is for a sender, and for a copy that may happen
-pub sender_ready : (fields : Inside) (st : State) → IsStore fields → state_of fields ≡ st → (r s q : ℕ) → sender st r s ≡ Some q → IsReady fields r s q
-sender_ready fields st h view r s q e = ready fields h r s q (ap (λ (x : State). sender x r s) view ∙ e)
+pub sender_ready : (fields : Inside) (st : Holding) → IsStore fields → holding_of fields ≡ st → (r s q : ℕ) → sender st r s ≡ Some q → IsReady fields r s q
+sender_ready fields st h view r s q e = ready fields h r s q (ap (λ (x : Holding). sender x r s) view ∙ e)
 
-pub copy_ready : (fields : Inside) (st : State) (e : CopyEvent) → IsStore fields → state_of fields ≡ st → can_copy st e ≡ true → IsReady fields e.receiver e.segment e.provider
+pub copy_ready : (fields : Inside) (st : Holding) (e : CopyEvent) → IsStore fields → holding_of fields ≡ st → can_copy st e ≡ true → IsReady fields e.receiver e.segment e.provider
 copy_ready fields st e h view may = sender_ready fields st h view e.receiver e.segment e.provider (copy_parts st e may).0
 
 -- the next chunk is that of the event
-pub next_is : (fields : Inside) (st : State) (e : CopyEvent) → state_of fields ≡ st → can_copy st e ≡ true
+pub next_is : (fields : Inside) (st : Holding) (e : CopyEvent) → holding_of fields ≡ st → can_copy st e ≡ true
     → chunk_of fields.copies.copying e.receiver e.segment e.provider fields.config.chunk ≡ e.batch
-next_is fields st e view may = ap (λ (x : State). next_chunk_of x e.receiver e.segment e.provider) view ∙ sym (copy_parts st e may).1
+next_is fields st e view may = ap (λ (x : Holding). next_chunk_of x e.receiver e.segment e.provider) view ∙ sym (copy_parts st e may).1
 
 -- what was sent is the next chunk
 pub sent_is : (sent : Option (Portion StampedEntry)) (next batch : Portion StampedEntry) (stores : Stores) (after : Portion StampedEntry → Stores) → is_some sent ≡ true
@@ -199,7 +196,7 @@ sent_is None next batch stores after there is are same = absurd (cc)
 sent_is (Some chunk) next batch stores after there is are same = are ∙ ap after (is ∙ same)
 
 -- so the copies are those behind the sending of the event's chunk
-pub copy_sends : (fields : Inside) (st : State) (e : CopyEvent) (stores : Stores) (sent : Option (Portion StampedEntry)) → IsStore fields → state_of fields ≡ st → can_copy st e ≡ true
+pub copy_sends : (fields : Inside) (st : Holding) (e : CopyEvent) (stores : Stores) (sent : Option (Portion StampedEntry)) → IsStore fields → holding_of fields ≡ st → can_copy st e ≡ true
     → is_some sent ≡ may_send (transfer_to fields.copies.copying.transfers e.receiver e.segment)
     → IfSome sent (λ chunk. chunk ≡ chunk_of fields.copies.copying e.receiver e.segment e.provider fields.config.chunk)
     → IfSome sent (λ chunk. stores ≡ record fields.copies { copying = sends e.receiver e.segment e.provider chunk fields.copies.copying })

@@ -1,4 +1,4 @@
 pub mod Insides
 pub mod Sending
 pub mod Receivers
-pub mod Known
+pub mod Hints

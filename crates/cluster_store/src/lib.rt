@@ -3,7 +3,7 @@
 //! command chooses.
 #![tactic(auto)]
 
-mod known;
+mod hints;
 mod matches;
 mod owners;
 mod store;

@@ -11,7 +11,7 @@ ghost use Rattle.topology_phase.specs.Owners.{among, members};
 ghost use Rattle.topology_phase.specs.Topologies.{read_owners};
 ghost use Rattle.cluster_model.specs.Calls.{first_reader};
 ghost use Rattle.cluster_model.specs.Kept.{KeepsTopologies};
-ghost use Rattle.cluster_model.specs.State.{segment_of, start};
+ghost use Rattle.cluster_model.specs.State.{first_holding, segment_of};
 ghost use Rattle.cluster_model.specs.Writes.{has_reader};
 
 mod events;
@@ -20,7 +20,7 @@ mod topologies;
 mod transfers;
 mod writes;
 
-use crate::known::Known;
+use crate::hints::Hints;
 use crate::owners::readers;
 use grid_base::{Batch, Key, NoMemory, NodeId, NodeSet, SegmentId};
 use grid_event::Config;
@@ -31,13 +31,13 @@ use std::marker::Model;
 use topology_coord::Coord;
 use topology_phase::Owners;
 
-/// What a cluster holds. Contracts see it as the state of a cluster in which no call was made.
+/// What a cluster holds. Contracts see it as the settings, the members and topologies, and the copies and transfers.
 #[derive(Drop)]
 pub struct Store {
     config: Config,
     coord: Coord,
     copies: Copies,
-    known: Known,
+    hints: Hints,
 }
 
 impl Model for Store {
@@ -48,15 +48,15 @@ impl Model for Store {
     ghost use Rattle.grid_base.specs.contracts.stamped.Stamped as stamped;
     ghost use Rattle.pipeline_expr.specs.contracts.expr.Expr as exprs;
     ghost use Rattle.state_transfer.specs.Cells.{cell_cmp, cell_code, destination_cmp, destination_code};
-    ghost use Rattle.cluster_model.specs.State.{State};
+    ghost use Rattle.cluster_model.specs.State.{Holding};
 
-    ghost Value = { State };
+    ghost Value = { Holding };
 
     ghost coded = { Prim.hlevel (codes, map_of.code, set_of.code, cell_code, destination_code, exprs.the_row.coded, stamped.the_row.coded) };
 
-    ghost use Rattle.cluster_store.specs.Insides.{state_of, IsStore};
+    ghost use Rattle.cluster_store.specs.Insides.{holding_of, IsStore};
 
-    ghost view = { state_of };
+    ghost view = { holding_of };
 
     ghost invariant = { IsStore };
 }
@@ -66,16 +66,22 @@ impl Store {
     /// out.
     pub fn new(alloc: Global, config: &Config) -> Result<Store, NoMemory>
         requires { is_config config.now ≡ true }
-        ensures { IfOk result (λ store. store ≡ start config.now) }
+        ensures { IfOk result (λ store. store ≡ first_holding config.now) }
     {
-        let coord = Coord::new(alloc, config.nodes, config.segments, config.owners)?;
+        let coord = Coord::new(
+            alloc,
+            config.nodes,
+            config.segments,
+            config.owners,
+            config.aim,
+        )?;
         let copies = first_copies(alloc, config.nodes)?;
-        let known = Known::first(alloc, &coord);
+        let hints = Hints::first(alloc, &coord);
         Ok(Store {
             config: *config,
             coord,
             copies,
-            known,
+            hints,
         })
     }
 

@@ -8,7 +8,7 @@ use grid_base::{Datum, Entry, Key, NodeId, SegmentId, SessionId};
 use grid_event::{Config, CopyEvent, EraseEvent, Event, Partition, ValueKind, WriteEvent};
 use std::alloc::Global;
 use std::test::Fail;
-use topology_phase::Topology;
+use topology_phase::{Aim, Topology};
 
 /// What is done with a store, and what is expected of it.
 #[derive(Clone, Copy)]
@@ -47,6 +47,7 @@ fn small() -> Config
         partition: Partition::Grouped,
         values: ValueKind::Int,
         chunk: 1,
+        aim: Aim::Create,
     }
 }
 

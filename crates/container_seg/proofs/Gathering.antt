@@ -30,6 +30,7 @@ pub fresh_skip_last : (clock : ℕ) (es rest : List (List ℕ × Stamped)) (k : 
 fresh_skip_last clock es rest k v is out =
     ap reverse (ap (fresh clock) is ∙ filter-append (λ e. outlasts clock e.1.until) rest ((k, v) ∷ []) ∙ ap (λ b. fresh clock rest ++ cond b ((k, v) ∷ []) []) out ∙ append-nil (fresh clock rest))
 
+-- and an entry that hasn't expired is taken from the end
 pub fresh_take_last : (clock : ℕ) (es rest : List (List ℕ × Stamped)) (k : List ℕ) (v : Stamped) → es ≡ rest ++ (k, v) ∷ [] → outlasts clock v.until ≡ true → reverse (fresh clock es) ≡ (k, v) ∷ reverse (fresh clock rest)
 fresh_take_last clock es rest k v is into =
     ap reverse (ap (fresh clock) is ∙ filter-append (λ e. outlasts clock e.1.until) rest ((k, v) ∷ []) ∙ ap (λ b. fresh clock rest ++ cond b ((k, v) ∷ []) []) into)
@@ -105,6 +106,7 @@ first_none most =
     let none : List (List ℕ × Stamped) = [] in
     λ i. record { entries = map stamped_entry (take_all most none (omega arith) i); last = le-leb 0 most (omega arith) i }
 
+-- a list of length 0 is empty
 without_length : (es : List (List ℕ × Stamped)) → length es ≡ 0 → es ≡ []
 without_length [] e = refl
 without_length (e ∷ es) h = absurd (omega arith)

@@ -10,6 +10,7 @@ use Rattle.container_seg.specs.Lifespans.{fresh, outlasts}
 use Rattle.container_seg.specs.Scans.{ascends, beyond, comes_after, next_chunk, stamped_entry}
 
 module _ {X : Type 0} (p : X → Bool) where
+  -- what passes of a list passes of it reversed
   all_reversed : (xs : List X) → list_all p xs ≡ true → list_all p (reverse xs) ≡ true
   all_reversed [] h = refl
   all_reversed (x ∷ xs) h =
@@ -17,11 +18,13 @@ module _ {X : Type 0} (p : X → Bool) where
       ∙ list_all-append p (reverse xs) (x ∷ [])
       ∙ (λ i. all_reversed xs (second_so (p x) (list_all p xs) h) i && (first_so (p x) (list_all p xs) h i && true))
 
+  -- and of its first ones
   all_taken : (n : ℕ) (xs : List X) → list_all p xs ≡ true → list_all p (take n xs) ≡ true
   all_taken zero xs h = refl
   all_taken (suc n) [] h = refl
   all_taken (suc n) (x ∷ xs) h = ap (λ b. b && list_all p (take n xs)) (first_so (p x) (list_all p xs) h) ∙ all_taken n xs (second_so (p x) (list_all p xs) h)
 
+  -- and of those that pass another test
   all_filtered : (q : X → Bool) (xs : List X) → list_all p xs ≡ true → list_all p (filter q xs) ≡ true
   all_filtered q [] h = refl
   all_filtered q (x ∷ xs) h =
@@ -31,6 +34,7 @@ module _ {X : Type 0} (p : X → Bool) where
         | false ↦ rest
       ]
 
+  -- those that pass a test all pass it
   all_passed : (xs : List X) → list_all p (filter p xs) ≡ true
   all_passed [] = refl
   all_passed (x ∷ xs) = elim (p x) as (λ b. p x ≡ b → list_all p (cond b (x ∷ filter p xs) (filter p xs)) ≡ true) [

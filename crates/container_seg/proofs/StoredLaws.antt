@@ -19,14 +19,17 @@ use Rattle.container_seg.proofs.PlaceLaws.{place_total, places_tie, exact_places
 
 -- ---- look-ups
 
+-- the first that there is of two
 abbrev or_else : Option Stamped → Option Stamped → Option Stamped
 or_else None second = second
 or_else (Some v) second = Some v
 
+-- what there is, or else nothing
 or_none : (o : Option Stamped) → or_else o None ≡ o
 or_none None = refl
 or_none (Some v) = refl
 
+-- what is found in two lists is what is found in the first, or else in the second
 find_append : (q : Place) (es fs : List (Place × Stamped)) → maps.find place_cmp q (es ++ fs) ≡ or_else (maps.find place_cmp q es) (maps.find place_cmp q fs)
 find_append q [] fs = refl
 find_append q (e ∷ es) fs = elim (eq_by_cmp place_cmp q e.0) as (λ b. cond b (Some e.1) (maps.find place_cmp q (es ++ fs)) ≡ or_else (cond b (Some e.1) (maps.find place_cmp q es)) (maps.find place_cmp q fs)) [
@@ -34,27 +37,33 @@ find_append q (e ∷ es) fs = elim (eq_by_cmp place_cmp q e.0) as (λ b. cond b 
   | false ↦ find_append q es fs
 ]
 
+-- a place is found by its segment, and then by its key
 placed_step : (r : Ordering) (b : Bool) (v : Stamped) (o : Option Stamped) (q : Ordering) → b ≡ is_eq q → cond (is_eq (ordering_then r q)) (Some v) (cond (is_eq r) o None) ≡ cond (is_eq r) (cond b (Some v) o) None
 placed_step Less b v o q e = refl
 placed_step Equal b v o q e = ap (λ t. cond t (Some v) o) (sym e)
 placed_step Greater b v o q e = refl
 
+-- what is chosen either way is the same
 either_way : (b : Bool) (o : Option Stamped) → o ≡ cond b o o
 either_way true o = refl
 either_way false o = refl
 
+-- a place is found in a part of a segment exactly where it is of that segment and the key is there
 find_placed : (n t : ℕ) (j : List ℕ) (row : List (List ℕ × Stamped)) → maps.find place_cmp (place t j) (map (λ e. (place n e.0, e.1)) row) ≡ cond (is_eq (nat_cmp t n)) (maps.find key_cmp j row) None
 find_placed n t j [] = either_way (is_eq (nat_cmp t n)) None
 find_placed n t j (e ∷ row) =
     ap (cond (eq_by_cmp place_cmp (place t j) (place n e.0)) (Some e.1)) (find_placed n t j row)
     ∙ placed_step (nat_cmp t n) (eq_by_cmp key_cmp j e.0) e.1 (maps.find key_cmp j row) (key_cmp j e.0) refl
 
+-- numbers that differ don't tie
 tie_no : (t n : ℕ) → t ≢ n → is_eq (nat_cmp t n) ≡ false
 tie_no t n h = unsigned_tied t n ∙ ne_eqb t n h
 
+-- equal numbers tie
 tie_yes : (t n : ℕ) → t ≡ n → is_eq (nat_cmp t n) ≡ true
 tie_yes t n h = unsigned_tied t n ∙ eq-eqb t n h
 
+-- nothing is stored of a segment before the first
 stored_below : (n t : ℕ) (j : List ℕ) (parts : List Part) → t < n → maps.find place_cmp (place t j) (stored_from n parts) ≡ None
 unfolding stored_from
 stored_below n t j [] h = refl
@@ -63,6 +72,7 @@ stored_below n t j (p ∷ parts) h =
     find_append (place t j) (map (λ e. (place n e.0, e.1)) (maps.entries p)) (stored_from (suc n) parts)
     ∙ (λ i. or_else ((find_placed n t j (maps.entries p) ∙ ap (λ b. cond b (maps.find key_cmp j (maps.entries p)) None) (tie_no t n differ)) i) (stored_below (suc n) t j parts (omega arith) i))
 
+-- what is stored of a segment is what its part has
 stored_at : (n t i : ℕ) (j : List ℕ) (parts : List Part) → t ≡ n + i → maps.find place_cmp (place t j) (stored_from n parts) ≡ maps.get (part_at parts i) j
 unfolding stored_from
 stored_at n t i j [] e = sym (maps.get-empty key_cmp j)
@@ -95,6 +105,7 @@ same_left m n h = maps.same_map place_total exact_places m n (λ q. h q.segment 
 
 -- ---- changes of one part
 
+-- after a part is set, its segment has it and any other segment what it had
 part_set : (parts : List Part) (s t : ℕ) (p : Part) → s < length parts → part_at (set parts s p) t ≡ cond (is_eq (nat_cmp t s)) p (part_at parts t)
 part_set parts s t p h = elim (cases_eq t s) [
   | inl same ↦ ap (part_at (set parts s p)) same ∙ get_or-set_same parts s p maps.empty h ∙ ap (λ b. cond b p (part_at parts t)) (sym (tie_yes t s same))
@@ -112,12 +123,14 @@ left_set clock parts s p h t j =
       | false ↦ sym (get-left_of clock parts t j)
     ]
 
+-- what is left of a choice is the choice of what is left
 left_chosen : (clock : ℕ) (b : Bool) (v o : Option Stamped) → left clock v ≡ v → left clock (cond b v o) ≡ cond b v (left clock o)
 left_chosen clock true v o h = h
 left_chosen clock false v o h = refl
 
 -- a part that is changed at one key: the container is changed at that place
 module _ (clock : ℕ) (parts : List Part) (s : ℕ) (k : List ℕ) (h : s < length parts) where
+  -- a part that is changed at one key changes the container at that place
   changed_at : (p : Part) (v : Option Stamped) → left clock v ≡ v → ((j : List ℕ) → maps.get p j ≡ cond (eq_by_cmp key_cmp j k) v (maps.get (part_at parts s) j)) → (t : ℕ) (j : List ℕ)
       → maps.get (left_of clock (set parts s p)) (place t j) ≡ cond (eq_by_cmp place_cmp (place t j) (place s k)) v (maps.get (left_of clock parts) (place t j))
   changed_at p v stays changed t j =
@@ -144,6 +157,7 @@ module _ (clock : ℕ) (parts : List Part) (s : ℕ) (k : List ℕ) (h : s < len
       changed_at (maps.remove (part_at parts s) k) None refl (λ i. maps.get-remove nat_list_cmp_total (part_at parts s) k i) t j
       ∙ sym (maps.get-remove place_total (left_of clock parts) (place s k) (place t j)))
 
+-- what a test takes away is what its opposite keeps
 dropped_step : (b : Bool) (o : Option Stamped) → cond b None o ≡ cond (not b) o None
 dropped_step true o = refl
 dropped_step false o = refl
@@ -160,6 +174,7 @@ left_dropped clock parts s h = same_left _ _ (λ t j.
 pub left_past : (clock : ℕ) (parts : List Part) (s : ℕ) (k : List ℕ) → length parts ≤ s → maps.get (left_of clock parts) (place s k) ≡ None
 left_past clock parts s k h = get-left_of clock parts s k ∙ ap (λ p. left clock (maps.get p k)) (get_or_past parts s maps.empty h) ∙ ap (left clock) (maps.get-empty key_cmp k)
 
+-- dropping a segment behind the last changes nothing
 pub left_dropped_past : (clock : ℕ) (parts : List Part) (s : ℕ) → length parts ≤ s → left_of clock parts ≡ maps.retain_keys (left_of clock parts) (λ p. not (p.segment == s))
 left_dropped_past clock parts s h = same_left _ _ (λ t j.
     kept t j ∙ sym (maps.get-retain_keys (left_of clock parts) (λ p. not (p.segment == s)) (place t j) (λ x e. ap (λ (p : Place). not (p.segment == s)) (sym (exact_places (place t j) x e)))))
@@ -226,6 +241,7 @@ left_removed_past clock parts s k h = same_left _ _ (λ t j.
 
 -- ---- the entries of one segment, in order
 
+-- a key is found in a segment as its place is found in the container
 find_in_segment : (s : ℕ) (k : List ℕ) (es : List (Place × Stamped)) → maps.find key_cmp k (in_segment s es) ≡ maps.find place_cmp (place s k) es
 find_in_segment s k [] = refl
 find_in_segment s k (e ∷ es) = elim (cases_eq e.0.segment s) [
@@ -241,29 +257,35 @@ find_in_segment s k (e ∷ es) = elim (cases_eq e.0.segment s) [
 pub get-part : (m : Copies) (s : ℕ) (k : List ℕ) → maps.get (part m s) k ≡ maps.get m (place s k)
 get-part m s k = maps.get-from_entries nat_list_cmp_total (in_segment s (maps.entries m)) k ∙ find_in_segment s k (maps.entries m) ∙ sym (maps.get-entries m (place s k))
 
+-- what holds of two tests holds of both together
 both_T : (a b : Bool) → T a → T b → T (a && b)
 both_T true b p q = q
 both_T false b p q = p
 
+-- and of both together holds of the first
 first_T : (a b : Bool) → T (a && b) → T a
 first_T true b p = tt
 first_T false b p = p
 
+-- and of the second
 second_T : (a b : Bool) → T (a && b) → T b
 second_T true b p = p
 second_T false b p = absurd p
 
+-- what is less doesn't tie
 less_not_tied : (r : Ordering) → T (is_lt r) → is_eq r ≡ false
 less_not_tied Less h = refl
 less_not_tied Equal h = absurd h
 less_not_tied Greater h = refl
 
+-- a key below all keys isn't found
 none_below : (k : List ℕ) (es : List (List ℕ × Stamped)) → T (below_all key_cmp k es) → maps.find key_cmp k es ≡ None
 none_below k [] h = refl
 none_below k (e ∷ es) h =
     ap (λ b. cond b (Some e.1) (maps.find key_cmp k es)) (less_not_tied (key_cmp k e.0) (first_T (is_lt (key_cmp k e.0)) (below_all key_cmp k es) h))
     ∙ none_below k es (second_T (is_lt (key_cmp k e.0)) (below_all key_cmp k es) h)
 
+-- a key below all keys is below those that haven't expired
 below_fresh : (clock : ℕ) (k : List ℕ) (es : List (List ℕ × Stamped)) → T (below_all key_cmp k es) → T (below_all key_cmp k (fresh clock es))
 below_fresh clock k [] h = tt
 below_fresh clock k (e ∷ es) h =
@@ -273,6 +295,7 @@ below_fresh clock k (e ∷ es) h =
       | false ↦ rest
     ]
 
+-- what hasn't expired of a sorted list is sorted
 sorted_fresh : (clock : ℕ) (es : List (List ℕ × Stamped)) → T (maps.is_sorted key_cmp es) → T (maps.is_sorted key_cmp (fresh clock es))
 sorted_fresh clock [] h = tt
 sorted_fresh clock (e ∷ es) h =
@@ -282,6 +305,7 @@ sorted_fresh clock (e ∷ es) h =
       | false ↦ rest
     ]
 
+-- what is found of those that haven't expired is what is left of what is found
 find_fresh : (clock : ℕ) (k : List ℕ) (es : List (List ℕ × Stamped)) → T (maps.is_sorted key_cmp es) → maps.find key_cmp k (fresh clock es) ≡ left clock (maps.find key_cmp k es)
 find_fresh clock k [] h = refl
 find_fresh clock k (e ∷ es) h =

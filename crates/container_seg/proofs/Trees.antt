@@ -21,6 +21,7 @@ pub exact_keys : IsAntisymmetric key_cmp
 exact_keys = slice_cmp-IsAntisymmetric nat_cmp-IsAntisymmetric
 
 module _ {X : Type 0} where
+  -- a look-up in the map is one in the tree
   lookup_find : (es : List (List ℕ × X)) (q : List ℕ) → map.find key_cmp q es ≡ lookup (is_at (key_cmp q)) es
   lookup_find [] q = refl
   lookup_find (e ∷ es) q = ap (cond (eq_by_cmp key_cmp q e.0) (Some e.1)) (lookup_find es q)
@@ -58,10 +59,12 @@ pub on_err : {V E A : Type 0} (r : Result V E) → A → OnErr r A
 on_err (Ok v) a = tt
 on_err (Err e) a = a
 
+-- what holds of two tests holds of both together
 both_T : (a b : Bool) → T a → T b → T (a && b)
 both_T true b p q = q
 both_T false b p q = p
 
+-- a key that is less than each key is below all
 below_from : {X : Type 0} (k : List ℕ) (es : List (List ℕ × X)) → AllByRecursion (λ q. key_cmp k q ≡ Less) (keys_of es) → T (below_all key_cmp k es)
 below_from k [] h = tt
 below_from k (e ∷ es) h = both_T (is_lt (key_cmp k e.0)) (below_all key_cmp k es) (subst (λ r. T (is_lt r)) (sym h.0) tt) (below_from k es h.1)
@@ -78,10 +81,12 @@ entries_tree es h =
     same_entries key_cmp nat_list_cmp_total exact_keys (map.entries (map.from_entries {R = key_cmp} es)) es (map.entries_sorted (map.from_entries {R = key_cmp} es)) (sorted_tree es h)
     (λ q. sym (map.get-entries (map.from_entries {R = key_cmp} es) q) ∙ map.get-from_entries nat_list_cmp_total es q)
 
+-- what is so, and true, is so
 and_true : (b : Bool) → (b && true) ≡ b
 and_true true = refl
 and_true false = refl
 
+-- what isn't at most is greater
 above_not_le : (r : Ordering) → not (is_le r) ≡ is_gt r
 above_not_le Less = refl
 above_not_le Equal = refl
@@ -93,6 +98,7 @@ filter_all [] = refl
 filter_all (e ∷ es) = ap (λ fs. e ∷ fs) (filter_all es)
 
 module _ {X : Type 0} (es : List (List ℕ × X)) (m : map.FinMap key_cmp X) (is : map.from_entries es ≡ m) (sorted : IsStrictlySortedBy key_cmp (keys_of es)) where
+  -- the entries of the tree are those of the map
   entries_of : es ≡ map.entries m
   entries_of = sym (entries_tree es sorted) ∙ ap map.entries is
 

@@ -8,20 +8,25 @@ ghost use Rattle.container_seg.specs.Contents.{place, part_entries};
 ghost use Rattle.container_seg.specs.Lifespans.{is_fresh, left, outlasts};
 ghost use Rattle.container_seg.specs.Scans.{next_chunk, without_deadlines};
 
-use crate::parts::{clear_in, copied, grow, left, plain, purge_in, put_in, remove_in};
+use crate::deadlines::Deadlines;
+use crate::parts::{
+    clear_in, copied, drop_deadlines, grow, left, plain, purge, purge_in, put_in, remove_in,
+    until_of,
+};
 use crate::segment_map::{SegmentMap, outlasts};
 use grid_base::{Batch, Chunk, Key, NoMemory, NodeId, SegmentId, Stamped, StampedEntries};
 use std::alloc::Global;
 use std::marker::Model;
 
-/// The copies that one node holds: for each segment an ordered map from keys to stamped values, and
-/// a clock. Contracts see the node's number, the clock, and the entries that haven't expired by
-/// segment and key.
+/// The copies that one node holds: for each segment an ordered map from keys to stamped values, a
+/// clock, and the deadlines in order, by which a tick finds what it frees. Contracts see the node's
+/// number, the clock, and the entries that haven't expired by segment and key.
 #[derive(Drop)]
 pub struct Container {
     node: NodeId,
     clock: u32,
     segments: Vec<SegmentMap>,
+    deadlines: Deadlines,
 }
 
 impl Model for Container {
@@ -49,6 +54,7 @@ impl Container {
             node,
             clock: 0,
             segments: Vec::new(alloc),
+            deadlines: Deadlines::new(alloc),
         })
     }
 
@@ -57,10 +63,12 @@ impl Container {
         ensures { IfOk result (λ copy. copy ≡ self.now) }
     {
         let segments = copied(alloc, &self.segments)?;
+        let deadlines = self.deadlines.copy()?;
         Ok(Container {
             node: self.node,
             clock: self.clock,
             segments,
+            deadlines,
         })
     }
 
@@ -116,7 +124,10 @@ impl Container {
     {
         let at = usize::from(segment.number());
         grow(alloc, &mut self.segments, at)?;
+        let until = stamped.until;
         let before = put_in(&mut self.segments, at, key, stamped)?;
+        self.deadlines
+            .change(segment, &key, until_of(&before), until);
         Ok(left(self.clock, before))
     }
 
@@ -131,6 +142,7 @@ impl Container {
             return None;
         }
         let before = remove_in(&mut self.segments, at, key);
+        self.deadlines.change(segment, key, until_of(&before), None);
         left(self.clock, before)
     }
 
@@ -142,6 +154,7 @@ impl Container {
         if at >= self.segments.len() {
             return;
         }
+        drop_deadlines(&mut self.deadlines, segment, &self.segments[at]);
         clear_in(&mut self.segments, at);
     }
 
@@ -152,9 +165,11 @@ impl Container {
         ensures { self.new ≡ record self.old { clock = clock; entries = map.retain_keys self.old.entries (λ p. is_fresh clock (map.get self.old.entries p)) } }
     {
         self.clock = clock;
+        purge(&mut self.segments, &mut self.deadlines, clock);
     }
 
-    /// Frees the memory of the entries of `segment` that have expired.
+    /// Frees the memory of the entries of `segment` that have expired. A tick frees those whose
+    /// deadlines are kept; one for whose deadline memory ran out goes here.
     pub fn purge(&mut self, segment: SegmentId)
         ensures { self.new ≡ self.old }
     {

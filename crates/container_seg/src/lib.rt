@@ -2,6 +2,7 @@
 #![tactic(auto)]
 
 mod container;
+mod deadlines;
 mod parts;
 mod segment_map;
 

@@ -4,10 +4,11 @@ ghost use Rattle.std.specs.Prelude.{◌≡◌, ℕ, ◌<◌, List, IfOk, OnOk, O
 ghost use Rattle.std.specs.FinMap as map;
 ghost use Rattle.container_seg.specs.Lifespans.{left};
 ghost use Rattle.container_seg.specs.Scans.{without_deadlines};
-ghost use Rattle.container_seg.specs.Stored.{part_at};
+ghost use Rattle.container_seg.specs.Stored.{left_of, part_at};
 
+use crate::deadlines::{Deadline, Deadlines};
 use crate::segment_map::{SegmentMap, outlasts};
-use grid_base::{Batch, Chunk, Entries, Entry, Key, NoMemory, Stamped};
+use grid_base::{Batch, Chunk, Entries, Entry, Key, NoMemory, SegmentId, Stamped};
 use std::alloc::Global;
 
 /// Sees that there is a segment at `at`. It fails only where memory runs out, and never where there
@@ -75,6 +76,54 @@ pub(crate) fn purge_in(segments: &mut Vec<SegmentMap>, at: usize, clock: u32)
     ensures alike { (q : List ℕ) → left clock (map.get (part_at segments.new.items at) q) ≡ left clock (map.get (part_at segments.old.items at) q) }
 {
     segments[at].purge(clock);
+}
+
+/// Frees what has expired when the clock stands here, of what the deadlines name.
+pub(crate) fn purge(segments: &mut Vec<SegmentMap>, deadlines: &mut Deadlines, clock: u32)
+    ensures { left_of clock segments.new.items ≡ left_of clock segments.old.items }
+{
+    for _ in 0..deadlines.len() {
+        let Some(due) = deadlines.pop(clock) else {
+            return;
+        };
+        free_in(segments, &due, clock);
+    }
+}
+
+/// Frees the entry that a deadline names, where it is there and has expired.
+fn free_in(segments: &mut Vec<SegmentMap>, due: &Deadline, clock: u32)
+    ensures { left_of clock segments.new.items ≡ left_of clock segments.old.items }
+{
+    let at = usize::from(due.segment.number());
+    if at >= segments.len() {
+        return;
+    }
+    free_at(segments, at, &due.key, clock);
+}
+
+/// Frees a key of the segment at `at`, where it has expired.
+fn free_at(segments: &mut Vec<SegmentMap>, at: usize, key: &Key, clock: u32)
+    requires { at < vec_len segments.old }
+    ensures others { segments.new.items ≡ slice_set segments.old.items at (part_at segments.new.items at) }
+    ensures alike { (q : List ℕ) → left clock (map.get (part_at segments.new.items at) q) ≡ left clock (map.get (part_at segments.old.items at) q) }
+{
+    segments[at].free(key, clock);
+}
+
+/// Takes the deadlines of a segment's entries out.
+pub(crate) fn drop_deadlines(deadlines: &mut Deadlines, segment: SegmentId, entries: &SegmentMap) {
+    let mut range = entries.all();
+    while let Some((key, stamped)) = range.next() {
+        deadlines.change(segment, key, stamped.until, None);
+    }
+}
+
+/// The deadline of a stamped value, where there is one.
+pub(crate) fn until_of(stamped: &Option<Stamped>) -> Option<u32> {
+    match stamped {
+        Some(stamped) => stamped.until,
+        None => None,
+    }
 }
 
 /// What is left of a stamped value when the clock stands here.

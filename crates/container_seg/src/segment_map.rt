@@ -119,7 +119,7 @@ impl SegmentMap {
     }
 
     /// Takes `key` out where it has expired when the clock stands here.
-    fn free(&mut self, key: &Key, clock: u32)
+    pub(crate) fn free(&mut self, key: &Key, clock: u32)
         ensures { (q : List ℕ) → left clock (map.get self.new q) ≡ left clock (map.get self.old q) }
     {
         if !self.has_expired(key, clock) {
@@ -167,7 +167,7 @@ impl SegmentMap {
     }
 
     /// All entries.
-    fn all(&self) -> Range<'_, Key, Stamped>
+    pub(crate) fn all(&self) -> Range<'_, Key, Stamped>
         ensures { result ≡ map.entries self.now }
     {
         self.tree.range(..)

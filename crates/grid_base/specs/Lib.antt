@@ -1,5 +1,5 @@
 pub mod Datum
-pub mod Held
+pub mod Buffered
 pub mod InlineText
 pub mod Key
 pub mod NodeSet

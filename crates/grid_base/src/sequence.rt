@@ -22,11 +22,11 @@ pub struct Sequence<T> {
 impl<T> Model for Sequence<T> {
     ghost use Rattle.std.specs.Prelude.{◌-◌, vec_len};
     ghost use Rattle.std.specs.Vec.{vec_capacity};
-    ghost use Rattle.grid_base.specs.Held.{Held, held_code};
+    ghost use Rattle.grid_base.specs.Buffered.{Buffered, buffered_code};
 
-    ghost Value = { Held T };
+    ghost Value = { Buffered T };
 
-    ghost coded = { held_code T.code };
+    ghost coded = { buffered_code T.code };
 
     ghost view = { λ it. record { list = it.items.items; spare = vec_capacity it.items - vec_len it.items } };
 }

@@ -5,10 +5,11 @@ ghost use Rattle.std.specs.Prelude.{◌≡◌};
 use grid_base::limits::{MOST_CHUNK, MOST_NODES, MOST_OWNERS, MOST_SEGMENTS};
 use pipeline_expr::ValueKind;
 use segment_hash::Partition;
+use topology_phase::Aim;
 
 /// The settings of a cluster: the first nodes, which are numbered from 0; the segments; how many
 /// owners a segment has at most; how keys are divided among the segments; the kind of the values;
-/// and how many entries a chunk of a transfer has at most.
+/// how many entries a chunk of a transfer has at most; and what a rebalance aims at.
 #[derive(Clone, Copy, Debug, PartialEq, Eq)]
 pub struct Config {
     pub nodes: u8,
@@ -17,6 +18,7 @@ pub struct Config {
     pub partition: Partition,
     pub values: ValueKind,
     pub chunk: u16,
+    pub aim: Aim,
 }
 
 impl Config {

@@ -32,6 +32,3 @@ pub use segment_hash::Partition;
 pub use store_events::{CopyEvent, EraseEvent, WriteEvent};
 pub use topology_phase::Topology;
 pub use unit_events::{FetchEvent, ScanEvent, TakeEvent};
-
-#[cfg(test)]
-mod tests;

@@ -8,6 +8,8 @@ pub mod CallLaws
 pub mod EventLaws
 pub mod Turns
 pub mod Trees
+pub mod Lasting
 pub mod FirstNodes
 pub mod Standings
 pub mod Telling
+pub mod RebalanceLines

@@ -20,6 +20,7 @@ use Rattle.topology_phase.specs.Topologies.{IsTopology, Topology, holders}
 use Rattle.grid_journal.specs.declared.membership.Membership.{Membership}
 use Rattle.grid_journal.specs.declared.standing.Standing.{Standing}
 use Rattle.grid_journal.specs.Briefs.{call_data, calls_data, calls_text, data_of, ends_text, given_of, json_text, nodes_data, outcomes_of, result_text, standing_text, told_data}
+use Rattle.grid_journal.specs.Rebalances.{told_least}
 use Rattle.grid_journal.specs.Reports.{line}
 use Rattle.grid_journal.specs.Standing.{membership_of, standing_members, standing_of, standing_topology, with_one}
 use Rattle.grid_journal.proofs.Standings.{gifts_stand, members_stand, one_more, topology_stands}
@@ -34,7 +35,7 @@ taken_more (y ∷ ys) zero x at = ap (λ found. unwrap_or found y ∷ []) at
 taken_more (y ∷ ys) (suc i) x at = ap (λ rest. y ∷ rest) (taken_more ys i x at)
 
 -- one more of a list in order is the first of the list in the other order
-reversed_more : {A : Type 0} (xs : List A) (i : ℕ) (x : A) → slice_get xs i ≡ Some x → reverse (take (suc i) xs) ≡ x ∷ reverse (take i xs)
+pub reversed_more : {A : Type 0} (xs : List A) (i : ℕ) (x : A) → slice_get xs i ≡ Some x → reverse (take (suc i) xs) ≡ x ∷ reverse (take i xs)
 reversed_more xs i x at = ap reverse (taken_more xs i x at) ∙ reverse-append (take i xs) (x ∷ [])
 
 -- what stands after so many events, and after one more
@@ -73,12 +74,12 @@ no_holder topology segment kept past =
 
 -- the calls and what stands at the end are as the past says
 pub told_text : (config : Config) (past : List Event) (s : Standing) → s ≡ standing_of config past
-    → calls_text (λ call. unwrap_or (finite.get s.given call) 0) (finite.entries s.outcomes) ++ ends_text (standing_members s.membership) (standing_topology s.membership) (finite.len s.keys)
-    ≡ calls_text (given_of past) (finite.entries (outcomes_of past)) ++ ends_text (live_members config past) (newest_topology config past) (finite.len (entries_of config past))
+    → calls_text (λ call. unwrap_or (finite.get s.given call) 0) (finite.entries s.outcomes) ++ (told_least config past ++ ends_text (standing_members s.membership) (standing_topology s.membership) (finite.len s.keys))
+    ≡ calls_text (given_of past) (finite.entries (outcomes_of past)) ++ (told_least config past ++ ends_text (live_members config past) (newest_topology config past) (finite.len (entries_of config past)))
 unfolding standing_of
 told_text config past s stands =
-    ap (λ t. calls_text (λ call. unwrap_or (finite.get t.given call) 0) (finite.entries t.outcomes) ++ ends_text (standing_members t.membership) (standing_topology t.membership) (finite.len t.keys)) stands
-    ∙ (λ i. calls_text (λ call. gifts_stand past call i) (finite.entries (outcomes_of past)) ++ ends_text (members_stand config past i) (topology_stands config past i) (finite.len (entries_of config past)))
+    ap (λ t. calls_text (λ call. unwrap_or (finite.get t.given call) 0) (finite.entries t.outcomes) ++ (told_least config past ++ ends_text (standing_members t.membership) (standing_topology t.membership) (finite.len t.keys))) stands
+    ∙ (λ i. calls_text (λ call. gifts_stand past call i) (finite.entries (outcomes_of past)) ++ (told_least config past ++ ends_text (members_stand config past i) (topology_stands config past i) (finite.len (entries_of config past))))
 
 -- the same as JSON
 pub told_json : (config : Config) (past : List Event) (s : Standing) → s ≡ standing_of config past
@@ -105,6 +106,11 @@ pub placed : (old settings calls ends first second third fourth : List ℕ)
     → first ≡ old ++ settings → second ≡ first ++ 10 ∷ [] → third ≡ second ++ calls → fourth ≡ third ++ ends → fourth ≡ old ++ (line settings ++ (calls ++ ends))
 placed old settings calls ends first second third fourth a b c d =
     d ∙ ap (λ text. text ++ ends) (c ∙ ap (λ text. text ++ calls) (b ∙ ap (λ text. text ++ 10 ∷ []) a)) ∙ simp append_assoc
+
+pub placed_more : (old settings calls least ends first second third fourth fifth : List ℕ)
+    → first ≡ old ++ settings → second ≡ first ++ 10 ∷ [] → third ≡ second ++ calls → fourth ≡ third ++ least → fifth ≡ fourth ++ ends → fifth ≡ old ++ (line settings ++ (calls ++ (least ++ ends)))
+placed_more old settings calls least ends first second third fourth fifth a b c d e =
+    e ∙ ap (λ text. text ++ ends) (d ∙ ap (λ text. text ++ least) (c ∙ ap (λ text. text ++ calls) (b ∙ ap (λ text. text ++ 10 ∷ []) a))) ∙ simp append_assoc
 
 -- the text of JSON, as a line
 pub json_line : (config : Config) (past : List Event) (told : Data) (old text first second : List ℕ) → told ≡ data_of config past

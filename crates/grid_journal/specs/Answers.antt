@@ -1,7 +1,7 @@
 -- What a call tells, against the reading that it follows.
 use Rattle.std.specs.Prelude.{◌≡◌, ℕ, List, Option, None, Some, Result, Ok, Err}
 use Rattle.std.specs.Borrow.{Bor}
-use Rattle.grid_base.specs.Held.{Held}
+use Rattle.grid_base.specs.Buffered.{Buffered}
 use Rattle.grid_event.specs.declared.event.Event.{Event}
 use Rattle.grid_journal.specs.declared.event_fault.EventFault.{EventFault}
 use Rattle.grid_journal.specs.declared.event_fault.EventFault.TheVariants.{BadEvent, NoMemory}
@@ -14,7 +14,7 @@ Gives (Err BadEvent) reading = reading ≡ None
 Gives (Err NoMemory) reading = Unit {0}
 
 -- the same of a list that may have spare places
-abbrev pub GivesList : {A : Type 0} → Result (Held A × Bor (List ℕ)) EventFault → Reading (List A) → Type 0
+abbrev pub GivesList : {A : Type 0} → Result (Buffered A × Bor (List ℕ)) EventFault → Reading (List A) → Type 0
 GivesList (Ok p) reading = reading ≡ Some (p.0.list, p.1.now)
 GivesList (Err BadEvent) reading = reading ≡ None
 GivesList (Err NoMemory) reading = Unit {0}

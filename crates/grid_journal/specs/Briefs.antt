@@ -17,6 +17,7 @@ use Rattle.serde_json.specs.Data.{Data, array, member, no_members, number, objec
 use Rattle.serde_json.specs.View.{items_of}
 use Rattle.serde_json.specs.Written.{compact_text}
 use Rattle.grid_journal.specs.Events.{outcome_text}
+use Rattle.grid_journal.specs.Rebalances.{told_least}
 use Rattle.grid_journal.specs.Reports.{config_text, line}
 use Rattle.grid_journal.specs.Topologies.{hash_text, owners_text, phase_text}
 use Rattle.grid_journal.specs.Words.{words}
@@ -78,7 +79,8 @@ abbrev pub brief_of : Config → List Event → List ℕ
 brief_of config past =
     line (config_text config)
     ++ (calls_text (given_of past) (map_of.entries (outcomes_of past))
-    ++ ends_text (live_members config past) (newest_topology config past) (map_of.len (entries_of config past)))
+    ++ (told_least config past
+    ++ ends_text (live_members config past) (newest_topology config past) (map_of.len (entries_of config past))))
 
 -- a call as JSON: its number, and how it ended
 abbrev pub call_data : ℕ → List ℕ → Data

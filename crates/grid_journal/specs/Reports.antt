@@ -11,6 +11,8 @@ use Rattle.pipeline_expr.specs.declared.kind.ValueKind.TheVariants.{Int, Text, F
 use Rattle.grid_event.specs.Histories.{History}
 use Rattle.hash_factory.specs.Formulas.{created}
 use Rattle.topology_phase.specs.Owners.{Hash}
+use Rattle.topology_phase.specs.declared.aim.Aim.{Aim}
+use Rattle.topology_phase.specs.declared.aim.Aim.TheVariants.{Create, Least}
 use Rattle.grid_journal.specs.Topologies.{hash_text}
 use Rattle.grid_journal.specs.Words.{words}
 use Rattle.grid_journal.specs.Events.{event_text}
@@ -39,9 +41,14 @@ sizes_text config = words (
 unfoldable pub kinds_text : Config → List ℕ
 kinds_text config = words (codes "partition" ∷ partition_text config.partition ∷ codes "values" ∷ kind_text config.values ∷ [])
 
+-- the aim, where it isn't the created hash
+abbrev pub aim_text : Aim → List ℕ
+aim_text Create = []
+aim_text Least = codes " hash least"
+
 -- the settings, each behind its name
 abbrev pub config_text : Config → List ℕ
-config_text config = words (sizes_text config ∷ kinds_text config ∷ codes "chunk" ∷ decimal config.chunk ∷ [])
+config_text config = words (sizes_text config ∷ kinds_text config ∷ codes "chunk" ∷ decimal config.chunk ∷ []) ++ aim_text config.aim
 
 -- the first nodes, which are numbered from 0
 abbrev pub first_nodes : Config → List ℕ

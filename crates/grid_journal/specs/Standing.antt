@@ -14,6 +14,7 @@ use Rattle.segment_hash.specs.Segments.{segment_number}
 use Rattle.topology_phase.specs.declared.phase.Phase.TheVariants.{NoRebalance}
 use Rattle.topology_phase.specs.Topologies.{Topology, holders}
 use Rattle.grid_journal.specs.Briefs.{outcomes_of}
+use Rattle.grid_journal.specs.Rebalances.{least_line}
 use Rattle.grid_journal.specs.declared.membership.Membership.{Membership}
 use Rattle.grid_journal.specs.declared.standing.Standing.{Standing}
 
@@ -120,6 +121,18 @@ with_ticks s ticks = record s {
   clock = s.clock + ticks;
   keys = map_of.retain_keys s.keys (λ key. stays (s.clock + ticks) (map_of.get s.keys key));
 }
+
+-- who moves by one event more, and the topology that it announces
+abbrev pub with_member : Membership → Event → Membership
+with_member m (Join node) = with_move m node true
+with_member m (Depart node) = with_move m node false
+with_member m (Announce topology) = record m { newest = Some topology }
+with_member m _ = m
+
+-- the line of an event that begins a rebalance
+abbrev pub event_line : Membership → Event → List ℕ
+event_line m (Announce topology) = least_line (standing_members m) (standing_topology m).phase topology
+event_line m _ = []
 
 -- one event more
 abbrev pub with_one : Standing → Event → Standing

@@ -11,6 +11,7 @@ ghost use Rattle.grid_journal.specs.Topologies.{owners_text};
 ghost use Rattle.grid_journal.specs.Words.{each_behind};
 
 use crate::outcomes::add_outcome;
+use crate::rebalances::add_rebalances;
 use crate::reports::add_config;
 use crate::standing::Standing;
 use crate::words::{add_number, add_number_word};
@@ -46,6 +47,7 @@ fn add_brief(
     add_config(out, config)?;
     out.push(b'\n')?;
     add_calls(out, &standing)?;
+    add_rebalances(alloc, out, config, journal)?;
     add_ends(alloc, out, &standing)?;
     Ok(())
 }

@@ -16,6 +16,7 @@ mod read_events;
 mod read_fields;
 mod read_topologies;
 mod read_values;
+mod rebalances;
 mod reports;
 mod standing;
 mod topologies;
@@ -27,6 +28,3 @@ pub use events::print_event;
 pub use json_briefs::brief_json;
 pub use read_events::read_event;
 pub use reports::report;
-
-#[cfg(test)]
-mod tests;

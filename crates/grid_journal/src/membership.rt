@@ -9,12 +9,13 @@ ghost use Rattle.grid_journal.specs.Reports.{first_hash};
 ghost use Rattle.grid_journal.specs.Briefs.{standing_text};
 ghost use Rattle.grid_journal.specs.Topologies.{hash_text, phase_text};
 ghost use Rattle.grid_journal.specs.Words.{words};
-ghost use Rattle.grid_journal.specs.Standing.{loses, loses_key, membership_of, stands_live, standing_members, standing_topology, with_move};
+ghost use Rattle.grid_journal.specs.Standing.{loses, loses_key, membership_of, stands_live, standing_members, standing_topology, with_member, with_move};
+ghost use Rattle.topology_phase.specs.Phases.{same_phase};
 
 use crate::numbered::Numbered;
 use crate::topologies::{add_hash, add_phase};
 use grid_base::{Bytes, Key, NoMemory, NodeId, NodeSet, SegmentId, Sequence};
-use grid_event::Config;
+use grid_event::{Config, Event};
 use hash_factory::create;
 use segment_hash::segment_of;
 use std::alloc::Global;
@@ -61,6 +62,28 @@ impl Membership {
         let newest = topology.copy(alloc)?;
         self.newest = Some(newest);
         Ok(())
+    }
+
+    /// One event more. The only failure is that memory runs out.
+    pub(crate) fn note(&mut self, alloc: Global, event: &Event) -> Result<(), NoMemory>
+        ensures { OnOk result (self.new ≡ with_member self.old event.now) }
+    {
+        match event {
+            Event::Join { node } => self.note_move(*node, true),
+            Event::Depart { node } => self.note_move(*node, false),
+            Event::Announce(topology) => self.announce(alloc, topology.get()),
+            _ => Ok(()),
+        }
+    }
+
+    /// Whether no rebalance goes on.
+    pub(crate) fn rests(&self) -> bool
+        ensures { result ≡ same_phase (standing_topology self.now).phase Phase.NoRebalance }
+    {
+        match &self.newest {
+            Some(newest) => newest.phase().is(Phase::NoRebalance),
+            None => true,
+        }
     }
 
     /// Whether the node is live.

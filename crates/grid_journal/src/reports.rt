@@ -2,7 +2,7 @@
 
 ghost use Rattle.std.specs.Prelude.{◌≡◌, ◌+◌, ◌<◌, ◌≤◌, ◌-◌, ◌%◌, ◌^◌, ◌∷◌, ◌++◌, [], length, take, drop, IfOk, IsSome, OnOk, decimal};
 ghost use Rattle.hash_factory.specs.Formulas.{created_owners};
-ghost use Rattle.grid_journal.specs.Reports.{config_text, end_line, events_text, first_hash, first_nodes, first_text, idle_text, kind_text, kinds_text, line};
+ghost use Rattle.grid_journal.specs.Reports.{aim_text, config_text, end_line, events_text, first_hash, first_nodes, first_text, idle_text, kind_text, kinds_text, line};
 ghost use Rattle.grid_journal.specs.Reports.{partition_text, report_text, run_text, sizes_text};
 ghost use Rattle.grid_journal.specs.Events.{event_text};
 ghost use Rattle.grid_journal.specs.Topologies.{hash_text, owners_text};
@@ -14,6 +14,7 @@ use crate::words::{add_number, add_number_word};
 use grid_base::{Bytes, NoMemory};
 use grid_event::{Config, Event, Idle, Journal, Partition, ValueKind};
 use std::alloc::Global;
+use topology_phase::Aim;
 
 /// The report of a journal that was started: its settings, its first topology, its events with
 /// their places from 1, a note of each idle line behind the events that stood before it, and the
@@ -50,7 +51,18 @@ pub(crate) fn add_config(out: &mut Bytes, config: &Config) -> Result<(), NoMemor
     add_sizes(out, config)?;
     add_kinds(out, config)?;
     out.extend(b" chunk")?;
-    add_number_word(out, u64::from(config.chunk))
+    add_number_word(out, u64::from(config.chunk))?;
+    add_aim(out, config.aim)
+}
+
+/// Adds the aim, where it isn't the created hash.
+fn add_aim(out: &mut Bytes, aim: Aim) -> Result<(), NoMemory>
+    ensures { OnOk result (out.new.list ≡ out.old.list ++ aim_text aim) }
+{
+    match aim {
+        Aim::Create => Ok(()),
+        Aim::Least => out.extend(b" hash least"),
+    }
 }
 
 /// Adds how many nodes, segments and owners there are.

@@ -1,7 +1,7 @@
 -- Sets of calls that are held as marks.
 use Rattle.std.proofs.Common.{◌≡◌, ℕ, zero, suc, Bool, false, List, replicate, refl, ap, ◌∙◌}
 use Rattle.std.specs.FinSet as set
-use Rattle.segment_hash.specs.Marked.{marked_from}
+use Rattle.grid_script.specs.Marked.{marked_from}
 
 -- marks none of which is set are those of the empty set
 none_marked : (n size : ℕ) → marked_from n (replicate size false) ≡ set.empty

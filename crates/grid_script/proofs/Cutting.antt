@@ -11,6 +11,7 @@ abbrev IsFree : List ℕ → Type 0
 IsFree [] = Unit {0}
 IsFree (b ∷ s) = (b ≢ 10) × IsFree s
 
+-- bytes of which none is a line feed have none
 free_by_places : (bytes : List ℕ) → ((k : ℕ) → k < length bytes → get_or bytes k 0 ≡ 10 → ⊥) → IsFree bytes
 free_by_places [] none = tt
 free_by_places (c ∷ bytes) none =

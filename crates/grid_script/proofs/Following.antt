@@ -8,6 +8,7 @@ use Rattle.grid_script.specs.Lines.{Line}
 use Rattle.grid_script.specs.Reading.{after_all}
 use Rattle.grid_script.specs.Settings.{found_or, setting_from, setting_line_in}
 
+-- a number and one is the next number
 one_more : (n : ℕ) → n + 1 ≡ suc n
 one_more n = omega arith
 

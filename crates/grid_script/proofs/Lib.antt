@@ -1,5 +1,6 @@
 pub mod Cutting
 pub mod Pipelines
+pub mod MarkedSets
 pub mod CallSets
 pub mod Following
 pub mod Numbering

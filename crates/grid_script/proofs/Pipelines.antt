@@ -11,9 +11,11 @@ use Rattle.grid_script.specs.Fields.{pipeline_of}
 use Rattle.grid_script.specs.Judging.{spelt}
 use Rattle.grid_script.specs.Laws.{PipelinesByText}
 
+-- a text that fits a line passes the test
 within : (n : ℕ) → n ≤ LONGEST_LINE → nat_le n LONGEST_LINE ≡ true
 within n h = grind (arith, nat_tests)
 
+-- a longer text doesn't
 past : (n : ℕ) → LONGEST_LINE < n → nat_le n LONGEST_LINE ≡ false
 past n h = grind (arith, nat_tests)
 
@@ -40,6 +42,7 @@ pub pipeline_long : (s : List ℕ) → LONGEST_LINE < length s → spelt (pipeli
 unfolding pipeline_of
 pipeline_long s more = ap (λ t. spelt (cond t (pipeline_at (length s + 1) s) (Err (length s)))) (past (length s) more)
 
+-- a text that passes the test fits a line
 short : (n : ℕ) → nat_le n LONGEST_LINE ≡ true → n ≤ LONGEST_LINE
 short n h = grind (arith, nat_tests)
 

@@ -11,6 +11,7 @@ use Rattle.pipeline_expr.specs.declared.kind.ValueKind.TheVariants as values
 use Rattle.pipeline_expr.specs.declared.op.Op.TheVariants.{Filter}
 use Rattle.pipeline_expr.specs.declared.pipeline.Pipeline.{Pipeline}
 use Rattle.segment_hash.specs.declared.partition.Partition.TheVariants.{Plain}
+use Rattle.topology_phase.specs.declared.aim.Aim.TheVariants.{Create}
 use Rattle.grid_script.specs.declared.order.Order.{Order}
 use Rattle.grid_script.specs.declared.order.Order.TheVariants.{One, Finish}
 use Rattle.grid_script.specs.declared.step_line.StepLine.{StepLine}
@@ -26,7 +27,7 @@ quarter x = x / 2 ^ 33 % 4
 
 -- the settings: 4 nodes, 64 segments, 2 owners, keys divided by their hash, ints, and chunks of 100 entries
 abbrev pub settings : Config
-settings = record { nodes = 4; segments = 64; owners = 2; partition = Plain; values = values.Int; chunk = 100 }
+settings = record { nodes = 4; segments = 64; owners = 2; partition = Plain; values = values.Int; chunk = 100; aim = Create }
 
 -- `put NODE kI I`
 abbrev pub key_order : ℕ → ℕ → Order

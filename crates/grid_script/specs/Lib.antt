@@ -4,6 +4,7 @@ pub mod Judging
 pub mod Fields
 pub mod Words
 pub mod Rules
+pub mod Marked
 pub mod Sets
 pub mod LiveRules
 pub mod StepLines

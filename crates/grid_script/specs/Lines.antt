@@ -20,8 +20,8 @@ lines_of [] = []
 lines_of (b ∷ s) = if b == 10 then (record { bytes = []; ended = true } ∷ lines_of s) else before_lines b (lines_of s)
 
 -- each line has at most 1,024 bytes, and a line feed at its end
-abbrev pub is_whole : Line → Judged (Unit {0})
-is_whole line = do
+abbrev pub needs_whole : Line → Judged (Unit {0})
+needs_whole line = do
   short ← needs (nat_le (length line.bytes) LONGEST_LINE) OverLimit
   needs line.ended Syntax
 

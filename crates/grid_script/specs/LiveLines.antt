@@ -20,7 +20,7 @@ use Rattle.grid_script.specs.declared.words.LiveWord.TheVariants as live
 use Rattle.grid_script.specs.Fields.{end_at, key_field, last_key, last_number, number_field}
 use Rattle.grid_script.specs.Judging.{Judged, ◌>>=◌, needs, spelt}
 use Rattle.grid_script.specs.LiveRules.{IsDeedOf, IsEntryOf, IsLive, IsNew, IsPossible, calls_behind, calls_with, deeds_of, members_behind, members_with}
-use Rattle.grid_script.specs.Rules.{call_within, first_members, has_kind, has_segment, is_new, is_typed, may_depart, may_join, node_within, request_within}
+use Rattle.grid_script.specs.Rules.{call_within, first_members, needs_kind, needs_segment, needs_new, needs_typed, may_depart, may_join, node_within, request_within}
 use Rattle.grid_script.specs.Scripts.{Lives}
 use Rattle.grid_script.specs.StepLines.{asked_in}
 use Rattle.grid_script.specs.Words.{live_word_at}
@@ -133,8 +133,8 @@ unfoldable pub live_put_in : LiveKnown → List ℕ → Judged LiveTold
 live_put_in known s = do
   place ← needs (may_put known.section) Syntax
   it ← entry_in s
-  segment ← has_segment known.config it.key
-  kind ← has_kind known.config it.value
+  segment ← needs_segment known.config it.key
+  kind ← needs_kind known.config it.value
   Ok (put_told known.section it)
 
 -- `erase KEY`
@@ -142,7 +142,7 @@ unfoldable pub live_erase_in : LiveKnown → List ℕ → Judged LiveTold
 live_erase_in known s = do
   place ← needs (is_session known.section) Syntax
   key ← spelt (last_key s)
-  segment ← has_segment known.config key
+  segment ← needs_segment known.config key
   Ok (Does (deed.Erase key))
 
 -- `call CALL GUARANTEE ROUNDS BATCH PIPELINE`
@@ -153,8 +153,8 @@ live_call_in known s = do
   asked ← asked_in number.1
   call ← call_within number.0
   request ← request_within asked
-  new ← is_new known.calls call
-  typed ← is_typed known.config request.pipeline
+  new ← needs_new known.calls call
+  typed ← needs_typed known.config request.pipeline
   Ok (Does (deed.Call call request))
 
 -- what a line tells, behind its first word

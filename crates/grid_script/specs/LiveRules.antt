@@ -14,7 +14,7 @@ use Rattle.grid_script.specs.declared.member.Member.TheVariants as member
 use Rattle.grid_script.specs.declared.members.Members.{Members}
 use Rattle.grid_script.specs.declared.session.Session.{Session}
 use Rattle.grid_script.specs.Judging.{Judged}
-use Rattle.grid_script.specs.Rules.{first_members, has_kind, has_segment, is_new, is_typed, may_depart, may_join, with_departed, with_joined}
+use Rattle.grid_script.specs.Rules.{first_members, needs_kind, needs_segment, needs_new, needs_typed, may_depart, may_join, with_departed, with_joined}
 use Rattle.grid_script.specs.Scripts.{Lives, are_numbered}
 use Rattle.grid_script.specs.Sets.{Calls}
 
@@ -49,7 +49,7 @@ ArePossible members (change ∷ changes) = IsPossible members change × ArePossi
 
 -- the key has a segment, and the value is of the kind that the settings name
 abbrev pub IsEntryOf : Config → Entry → Type 0
-IsEntryOf config it = (has_segment config it.key ≡ Ok tt) × (has_kind config it.value ≡ Ok tt)
+IsEntryOf config it = (needs_segment config it.key ≡ Ok tt) × (needs_kind config it.value ≡ Ok tt)
 
 -- what a call asks for: 1 to 64 rounds, batches of 1 to 1,000 entries, and a pipeline that checks
 pub record IsRequestOf (config : Config) (request : Request) : Type 0 where
@@ -57,12 +57,12 @@ pub record IsRequestOf (config : Config) (request : Request) : Type 0 where
   pub most_rounds : request.rounds ≤ MOST_ROUNDS
   pub some_batch : 1 ≤ request.batch
   pub most_batch : request.batch ≤ MOST_BATCH
-  pub typed : is_typed config request.pipeline ≡ Ok tt
+  pub typed : needs_typed config request.pipeline ≡ Ok tt
 
 -- a deed puts an entry, erases at a key that has a segment, or makes a call of a number from 1 to 4,096
 abbrev pub IsDeedOf : Config → Deed → Type 0
 IsDeedOf config (deed.Put it) = IsEntryOf config it
-IsDeedOf config (deed.Erase key) = has_segment config key ≡ Ok tt
+IsDeedOf config (deed.Erase key) = needs_segment config key ≡ Ok tt
 IsDeedOf config (deed.Call call request) = (1 ≤ call) × ((call ≤ LAST_CALL) × IsRequestOf config request)
 
 -- what all sessions do, one session behind the other
@@ -82,7 +82,7 @@ calls_behind calls (deed ∷ deeds) = calls_behind (calls_with calls deed) deeds
 
 -- a call that a deed makes has a number that none before it has
 abbrev pub IsNew : Calls → Deed → Type 0
-IsNew calls (deed.Call call request) = is_new calls call ≡ Ok tt
+IsNew calls (deed.Call call request) = needs_new calls call ≡ Ok tt
 IsNew calls _ = Unit {0}
 
 -- no two calls have one number

@@ -12,7 +12,7 @@ use Rattle.grid_script.specs.declared.script_kind.ScriptKind.{ScriptKind}
 use Rattle.grid_script.specs.declared.script_kind.ScriptKind.TheVariants as kind
 use Rattle.grid_script.specs.declared.section.Section.TheVariants.{Start}
 use Rattle.grid_script.specs.Judging.{Judged, Told, ◌>>=◌, on_line}
-use Rattle.grid_script.specs.Lines.{Line, is_whole, lines_of, says_nothing}
+use Rattle.grid_script.specs.Lines.{Line, needs_whole, lines_of, says_nothing}
 use Rattle.grid_script.specs.LiveLines.{lives_of, told_in, with_told}
 use Rattle.grid_script.specs.Rules.{first_members}
 use Rattle.grid_script.specs.Settings.{Behind, head_of}
@@ -20,7 +20,7 @@ use Rattle.grid_script.specs.StepLines.{order_in, with_order}
 
 -- what is known behind a line of a stepped run
 unfoldable pub step_after : Known → ℕ → Line → Judged Known
-step_after known n line = is_whole line >>= (λ whole.
+step_after known n line = needs_whole line >>= (λ whole.
     if says_nothing line.bytes then Ok known else (order_in known line.bytes >>= (λ order. Ok (with_order known n order))))
 
 -- what is known behind some lines, the first of which has this number, or the first line at fault
@@ -30,7 +30,7 @@ after_all step known n (line ∷ lines) = on_line n (step known n line) >>= (λ 
 
 -- what is known behind a line of a live run
 unfoldable pub live_after : LiveKnown → ℕ → Line → Judged LiveKnown
-live_after known n line = is_whole line >>= (λ whole.
+live_after known n line = needs_whole line >>= (λ whole.
     if says_nothing line.bytes then Ok known else (told_in known line.bytes >>= (λ told. Ok (with_told known told))))
 
 -- what is known of a stepped run before its first line

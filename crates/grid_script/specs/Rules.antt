@@ -63,8 +63,8 @@ abbrev pub first_members : ℕ → Members
 first_members n = record { ever = first_nodes n; live = first_nodes n }
 
 -- a node is live: it was a member at some time, and hasn't departed
-unfoldable pub is_live : Members → ℕ → Judged (Unit {0})
-is_live members node = do
+unfoldable pub needs_live : Members → ℕ → Judged (Unit {0})
+needs_live members node = do
   known ← needs (set.contains members.ever node) NodeUnknown
   needs (set.contains members.live node) NodeGone
 
@@ -77,7 +77,7 @@ may_join members node = do
 -- a live node may depart that isn't the only one
 unfoldable pub may_depart : Members → ℕ → Judged (Unit {0})
 may_depart members node = do
-  live ← is_live members node
+  live ← needs_live members node
   needs (not (set.len members.live == 1)) LastNode
 
 -- the members behind a join
@@ -89,16 +89,16 @@ abbrev pub with_departed : Members → ℕ → Members
 with_departed members node = record { ever = members.ever; live = set.remove members.live node }
 
 -- a call was made by a line before
-abbrev pub is_made : Calls → ℕ → Judged (Unit {0})
-is_made calls call = needs (set.contains calls call) CallUnknown
+abbrev pub needs_made : Calls → ℕ → Judged (Unit {0})
+needs_made calls call = needs (set.contains calls call) CallUnknown
 
 -- a call is new
-abbrev pub is_new : Calls → ℕ → Judged (Unit {0})
-is_new calls call = needs (not (set.contains calls call)) CallTwice
+abbrev pub needs_new : Calls → ℕ → Judged (Unit {0})
+needs_new calls call = needs (not (set.contains calls call)) CallTwice
 
 -- a key has a segment
-abbrev pub has_segment : Config → List ℕ → Judged (Unit {0})
-has_segment config key = needs (is_some (segment_number config.partition config.segments key)) KeyUngrouped
+abbrev pub needs_segment : Config → List ℕ → Judged (Unit {0})
+needs_segment config key = needs (is_some (segment_number config.partition config.segments key)) KeyUngrouped
 
 -- whether a value is of a kind
 abbrev pub is_kind : ValueKind → Datum → Bool
@@ -108,8 +108,8 @@ is_kind values.Flag (datum.Flag b) = true
 is_kind _ _ = false
 
 -- a value is of the kind that the settings name
-abbrev pub has_kind : Config → Datum → Judged (Unit {0})
-has_kind config value = needs (is_kind config.values value) Mistyped
+abbrev pub needs_kind : Config → Datum → Judged (Unit {0})
+needs_kind config value = needs (is_kind config.values value) Mistyped
 
 -- an operation past a limit, or one whose need isn't met
 abbrev pub typed : Result Kind CheckFault → Judged (Unit {0})
@@ -118,5 +118,5 @@ typed (Err (check_fault.Over op)) = Err OverLimit
 typed (Err (check_fault.Mistyped op)) = Err Mistyped
 
 -- a pipeline keeps its limits, and its operations' needs are met
-abbrev pub is_typed : Config → Pipeline → Judged (Unit {0})
-is_typed config pipeline = typed (checked pipeline config.values)
+abbrev pub needs_typed : Config → Pipeline → Judged (Unit {0})
+needs_typed config pipeline = typed (checked pipeline config.values)

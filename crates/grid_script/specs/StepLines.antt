@@ -23,7 +23,7 @@ use Rattle.grid_script.specs.declared.words.BareWord.{BareWord}
 use Rattle.grid_script.specs.declared.words.BareWord.TheVariants as bare
 use Rattle.grid_script.specs.Fields.{end_at, key_field, last_key, last_number, number_field, pipeline_of}
 use Rattle.grid_script.specs.Judging.{Judged, ◌>>=◌, spelt}
-use Rattle.grid_script.specs.Rules.{call_within, has_kind, has_segment, is_live, is_made, is_new, is_typed, lifespan_within, may_depart, may_join, node_within, request_within, segment_within, ticks_within, with_departed, with_joined}
+use Rattle.grid_script.specs.Rules.{call_within, needs_kind, needs_segment, needs_live, needs_made, needs_new, needs_typed, lifespan_within, may_depart, may_join, node_within, request_within, segment_within, ticks_within, with_departed, with_joined}
 use Rattle.grid_script.specs.Sets.{Calls}
 use Rattle.grid_script.specs.Words.{guarantee_at, step_word_at}
 
@@ -47,9 +47,9 @@ put_in known s = do
   words ← put_words s
   node ← node_within words.node
   lifespan ← lifespan_within words.lifespan
-  live ← is_live known.members node
-  segment ← has_segment known.config words.key
-  kind ← has_kind known.config words.datum
+  live ← needs_live known.members node
+  segment ← needs_segment known.config words.key
+  kind ← needs_kind known.config words.datum
   Ok (One (command.Put 0 node words.key words.datum lifespan))
 
 -- `erase NODE KEY`
@@ -58,8 +58,8 @@ erase_in known s = do
   number ← spelt (number_field s)
   key ← spelt (last_key number.1)
   node ← node_within number.0
-  live ← is_live known.members node
-  segment ← has_segment known.config key
+  live ← needs_live known.members node
+  segment ← needs_segment known.config key
   Ok (One (command.Erase 0 node key))
 
 -- what a call asks for: `GUARANTEE ROUNDS BATCH PIPELINE`
@@ -86,9 +86,9 @@ call_in known s = do
   call ← call_within words.call
   node ← node_within words.node
   request ← request_within words.asked
-  live ← is_live known.members node
-  new ← is_new known.calls call
-  typed ← is_typed known.config request.pipeline
+  live ← needs_live known.members node
+  new ← needs_new known.calls call
+  typed ← needs_typed known.config request.pipeline
   Ok (One (command.Call 0 call node request))
 
 -- `tick NUMBER`
@@ -119,7 +119,7 @@ unfoldable pub install_in : Known → List ℕ → Judged Order
 install_in known s = do
   number ← spelt (last_number s)
   node ← node_within number
-  live ← is_live known.members node
+  live ← needs_live known.members node
   Ok (One (command.Install node))
 
 abbrev pub copy_order : CopyWord → ℕ → ℕ → Order
@@ -133,7 +133,7 @@ copy_in known word s = do
   second ← spelt (last_number first.1)
   node ← node_within first.0
   segment ← segment_within known.config second
-  live ← is_live known.members node
+  live ← needs_live known.members node
   Ok (copy_order word node segment)
 
 abbrev pub call_order : CallWord → ℕ → Order
@@ -147,7 +147,7 @@ unfoldable pub made_call_in : Known → CallWord → List ℕ → Judged Order
 made_call_in known word s = do
   number ← spelt (last_number s)
   call ← call_within number
-  made ← is_made known.calls call
+  made ← needs_made known.calls call
   Ok (call_order word call)
 
 abbrev pub unit_order : UnitWord → ℕ → ℕ → Order
@@ -164,7 +164,7 @@ unit_in known word s = do
   second ← spelt (last_number first.1)
   call ← call_within first.0
   segment ← segment_within known.config second
-  made ← is_made known.calls call
+  made ← needs_made known.calls call
   Ok (unit_order word call segment)
 
 abbrev pub bare_order : BareWord → Order

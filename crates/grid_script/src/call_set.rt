@@ -20,7 +20,7 @@ impl Model for CallSet {
     ghost use Rattle.std.specs.Coded.{coded_ℕ};
     ghost use Rattle.std.specs.FinSet as set;
     ghost use Rattle.grid_base.specs.declared.limits.TheConstants.{LAST_CALL};
-    ghost use Rattle.segment_hash.specs.Marked.{marked_from};
+    ghost use Rattle.grid_script.specs.Marked.{marked_from};
     ghost use Rattle.grid_script.specs.Sets.{Calls};
 
     ghost Value = { Calls };

@@ -13,6 +13,7 @@ use grid_event::{
 use itoa::Buffer;
 use sqlite_items::{Boxed, Items};
 use std::alloc::Global;
+use topology_phase::Aim;
 
 /// The most lines, so that each has a number of 32 bits.
 const MOST_LINES: usize = 4_294_967_280;
@@ -46,6 +47,7 @@ fn settings() -> Config
         partition: Partition::Plain,
         values: ValueKind::Int,
         chunk: 100,
+        aim: Aim::Create,
     }
 }
 

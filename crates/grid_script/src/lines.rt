@@ -3,7 +3,7 @@
 ghost use Rattle.std.specs.Prelude.{◌≡◌, ◌<◌, ◌∷◌, length};
 ghost use Rattle.grid_script.specs.Faults.{script_fault_of};
 ghost use Rattle.grid_script.specs.Judging.{Says};
-ghost use Rattle.grid_script.specs.Lines.{Line, is_whole, lines_of, says_nothing};
+ghost use Rattle.grid_script.specs.Lines.{Line, needs_whole, lines_of, says_nothing};
 
 use crate::line_fault::LineFault;
 use crate::reason::Reason;
@@ -42,9 +42,9 @@ pub(crate) fn first_line(text: &[u8]) -> Cut<'_>
 }
 
 /// Refuses a line of more than 1,024 bytes, and one without a line feed at its end.
-#[tactic(auto, unfolding(crate::specs::Lines::is_whole))]
-pub(crate) fn is_whole(line: &[u8], ended: bool) -> Result<(), LineFault>
-    ensures { Says result (is_whole (record { bytes = line.now; ended = ended })) }
+#[tactic(auto, unfolding(crate::specs::Lines::needs_whole))]
+pub(crate) fn needs_whole(line: &[u8], ended: bool) -> Result<(), LineFault>
+    ensures { Says result (needs_whole (record { bytes = line.now; ended = ended })) }
 {
     needs(line.len() <= LONGEST_LINE, Reason::OverLimit)?;
     needs(ended, Reason::Syntax)

@@ -17,7 +17,8 @@ use crate::readers::{
 };
 use crate::reason::Reason;
 use crate::rules::{
-    call_within, has_kind, has_segment, is_new, is_typed, needs, node_within, request_within,
+    call_within, needs, needs_kind, needs_new, needs_segment, needs_typed, node_within,
+    request_within,
 };
 use crate::section::Section;
 use crate::session::Session;
@@ -220,8 +221,8 @@ fn read_live_put(alloc: Global, known: &LiveKnown, text: &[u8]) -> Result<LiveTo
 {
     needs(may_put(&known.section), Reason::Syntax)?;
     let entry = read_entry(alloc, text)?;
-    has_segment(&known.config, &entry.key)?;
-    has_kind(&known.config, &entry.value)?;
+    needs_segment(&known.config, &entry.key)?;
+    needs_kind(&known.config, &entry.value)?;
     Ok(put_told(&known.section, entry))
 }
 
@@ -234,7 +235,7 @@ fn read_live_erase(known: &LiveKnown, text: &[u8]) -> Result<LiveTold, LineFault
 {
     needs(is_session(&known.section), Reason::Syntax)?;
     let key = read_last_key(text)?;
-    has_segment(&known.config, &key)?;
+    needs_segment(&known.config, &key)?;
     Ok(LiveTold::Does(Deed::Erase(key)))
 }
 
@@ -249,8 +250,8 @@ fn read_live_call(alloc: Global, known: &LiveKnown, text: &[u8]) -> Result<LiveT
     let asked = read_asked(alloc, rest)?;
     let call = call_within(number)?;
     let request = request_within(asked)?;
-    is_new(&known.calls, call)?;
-    is_typed(&known.config, &request.pipeline)?;
+    needs_new(&known.calls, call)?;
+    needs_typed(&known.config, &request.pipeline)?;
     Ok(LiveTold::Does(Deed::Call(call, request)))
 }
 

@@ -2,7 +2,7 @@
 
 ghost use Rattle.std.specs.Prelude.{◌≡◌, ◌≤◌};
 ghost use Rattle.grid_script.specs.Judging.{Says};
-ghost use Rattle.grid_script.specs.Rules.{first_members, first_nodes, is_live, may_depart, may_join, with_departed, with_joined};
+ghost use Rattle.grid_script.specs.Rules.{first_members, first_nodes, needs_live, may_depart, may_join, with_departed, with_joined};
 
 use crate::line_fault::LineFault;
 use crate::reason::Reason;
@@ -29,9 +29,9 @@ impl Members {
     }
 
     /// Refuses a node that isn't live.
-    #[tactic(auto, unfolding(crate::specs::Rules::is_live))]
-    pub(crate) fn is_live(&self, node: NodeId) -> Result<(), LineFault>
-        ensures { Says result (is_live self.now node) }
+    #[tactic(auto, unfolding(crate::specs::Rules::needs_live))]
+    pub(crate) fn needs_live(&self, node: NodeId) -> Result<(), LineFault>
+        ensures { Says result (needs_live self.now node) }
     {
         needs(self.ever.has(node), Reason::NodeUnknown)?;
         needs(self.live.has(node), Reason::NodeGone)
@@ -54,7 +54,7 @@ impl Members {
     pub(crate) fn may_depart(&self, node: NodeId) -> Result<(), LineFault>
         ensures { Says result (may_depart self.now node) }
     {
-        self.is_live(node)?;
+        self.needs_live(node)?;
         needs(!(self.live.count() == 1), Reason::LastNode)
     }
 

@@ -14,7 +14,7 @@ use crate::call_set::CallSet;
 use crate::deed::Deed;
 use crate::known::Known;
 use crate::line_fault::LineFault;
-use crate::lines::{first_line, is_whole, on_line, says_nothing};
+use crate::lines::{first_line, needs_whole, on_line, says_nothing};
 use crate::live_known::LiveKnown;
 use crate::live_lines::read_told;
 use crate::live_script::LiveScript;
@@ -105,7 +105,7 @@ fn step_after(
     ensures settings { IfOk result (λ next. is_config next.config ≡ true) }
     ensures ticks { IfOk result (λ next. next.ticks ≤ LAST_CLOCK) }
 {
-    is_whole(line, ended)?;
+    needs_whole(line, ended)?;
     if says_nothing(line) {
         return Ok(known);
     }
@@ -334,7 +334,7 @@ fn live_after(
     ensures judged { (number : ℕ) → Says result (live_after known number (record { bytes = line.now; ended = ended })) }
     ensures rules { IfOk result IsSoFar }
 {
-    is_whole(line, ended)?;
+    needs_whole(line, ended)?;
     if says_nothing(line) {
         return Ok(known);
     }

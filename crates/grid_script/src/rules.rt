@@ -5,7 +5,7 @@ ghost use Rattle.grid_base.specs.declared.limits.TheConstants.{LAST_CALL, LAST_C
 ghost use Rattle.grid_event.specs.Configs.{is_config};
 ghost use Rattle.pipeline_expr.specs.Typing.{checked};
 ghost use Rattle.grid_script.specs.Judging.{Says, needs};
-ghost use Rattle.grid_script.specs.Rules.{call_within, has_kind, has_segment, is_kind, is_made, is_new, is_typed, lifespan_within, node_within, request_within, segment_within, ticks_within, typed, within};
+ghost use Rattle.grid_script.specs.Rules.{call_within, needs_kind, needs_segment, is_kind, needs_made, needs_new, needs_typed, lifespan_within, node_within, request_within, segment_within, ticks_within, typed, within};
 
 use crate::asked::Asked;
 use crate::call_set::CallSet;
@@ -116,25 +116,25 @@ pub(crate) fn request_within(asked: Asked) -> Result<Request, LineFault>
 }
 
 /// Refuses a call that no line before makes.
-pub(crate) fn is_made(calls: &CallSet, call: CallId) -> Result<(), LineFault>
+pub(crate) fn needs_made(calls: &CallSet, call: CallId) -> Result<(), LineFault>
     requires { call ≤ LAST_CALL }
-    ensures { Says result (is_made calls.now call) }
+    ensures { Says result (needs_made calls.now call) }
 {
     needs(calls.has(call), Reason::CallUnknown)
 }
 
 /// Refuses a call that a line before makes.
-pub(crate) fn is_new(calls: &CallSet, call: CallId) -> Result<(), LineFault>
+pub(crate) fn needs_new(calls: &CallSet, call: CallId) -> Result<(), LineFault>
     requires { call ≤ LAST_CALL }
-    ensures { Says result (is_new calls.now call) }
+    ensures { Says result (needs_new calls.now call) }
 {
     needs(!calls.has(call), Reason::CallTwice)
 }
 
 /// Refuses a key that has no segment.
-pub(crate) fn has_segment(config: &Config, key: &Key) -> Result<(), LineFault>
+pub(crate) fn needs_segment(config: &Config, key: &Key) -> Result<(), LineFault>
     requires { is_config config.now ≡ true }
-    ensures { Says result (has_segment config.now key.now) }
+    ensures { Says result (needs_segment config.now key.now) }
 {
     needs(
         segment_of(key, config.partition, config.segments).is_some(),
@@ -155,15 +155,15 @@ fn is_kind(kind: ValueKind, datum: &Datum) -> bool
 }
 
 /// Refuses a value of another kind than the settings name.
-pub(crate) fn has_kind(config: &Config, datum: &Datum) -> Result<(), LineFault>
-    ensures { Says result (has_kind config.now datum.now) }
+pub(crate) fn needs_kind(config: &Config, datum: &Datum) -> Result<(), LineFault>
+    ensures { Says result (needs_kind config.now datum.now) }
 {
     needs(is_kind(config.values, datum), Reason::Mistyped)
 }
 
 /// Refuses a pipeline that is past a limit, or has an operation whose need isn't met.
-pub(crate) fn is_typed(config: &Config, pipeline: &Pipeline) -> Result<(), LineFault>
-    ensures { Says result (is_typed config.now pipeline.now) }
+pub(crate) fn needs_typed(config: &Config, pipeline: &Pipeline) -> Result<(), LineFault>
+    ensures { Says result (needs_typed config.now pipeline.now) }
 {
     typed(check(pipeline, config.values))
 }

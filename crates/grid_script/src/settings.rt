@@ -5,21 +5,22 @@ ghost use Rattle.grid_base.specs.declared.limits.TheConstants.{LONGEST_SCRIPT};
 ghost use Rattle.grid_event.specs.Configs.{is_config};
 ghost use Rattle.grid_script.specs.Judging.{Says};
 ghost use Rattle.grid_script.specs.Lines.{Line, lines_of};
-ghost use Rattle.grid_script.specs.Settings.{head_of, is_kind_line, number_within, partition_in, same_kind, setting_from, setting_in, setting_line_in, settings, settings_from, unset, values_in, with_setting};
-ghost use Rattle.grid_script.specs.Heads.{Heads};
+ghost use Rattle.grid_script.specs.Settings.{aim_from, aim_in, is_skipped, with_aim, head_of, needs_kind_line, number_within, partition_in, same_kind, setting_from, setting_in, setting_line_in, settings, settings_from, unset, values_in, with_setting};
+ghost use Rattle.grid_script.specs.Heads.{Heads, behind_of};
 
 use crate::head_words::{Setting, read_kind, read_partition_word, read_values_word, setting_word};
 use crate::line_fault::LineFault;
-use crate::lines::{first_line, is_whole, on_line, says_nothing};
+use crate::lines::{first_line, needs_whole, on_line, says_nothing};
 use crate::readers::{read_end, read_last_number};
 use crate::reason::Reason;
 use crate::rules;
 use crate::rules::needs;
 use crate::script_fault::ScriptFault;
 use crate::script_kind::ScriptKind;
-use grid_base::limits::{MOST_CHUNK, MOST_NODES, MOST_OWNERS, MOST_SEGMENTS};
+use grid_base::limits::{LONGEST_LINE, MOST_CHUNK, MOST_NODES, MOST_OWNERS, MOST_SEGMENTS};
 use grid_event::{Config, Partition, ValueKind};
 use pipeline_parse::reading::read_literal;
+use topology_phase::Aim;
 
 /// The settings so far, the number of the next line, and the text from that line on.
 #[derive(Clone, Copy, Debug)]
@@ -41,6 +42,7 @@ fn unset() -> Config
         partition: Partition::Plain,
         values: ValueKind::Int,
         chunk: 1,
+        aim: Aim::Create,
     }
 }
 
@@ -148,7 +150,7 @@ fn read_setting_line(
     ensures judged { Says result (setting_line_in config setting (record { bytes = line.now; ended = ended })) }
     ensures limits { IfOk result (λ found. IfSome found (λ made. is_config made ≡ true)) }
 {
-    is_whole(line, ended)?;
+    needs_whole(line, ended)?;
     if says_nothing(line) {
         return Ok(None);
     }
@@ -210,6 +212,68 @@ fn read_settings(number: u32, text: &[u8]) -> Result<Head<'_>, ScriptFault>
     read_setting(head.config, Setting::Chunk, head.number, head.rest)
 }
 
+/// The settings with the aim that the next line sets that says something; where it sets none, no
+/// line is taken.
+#[tactic(auto, unfolding(crate::specs::Settings::with_aim))]
+fn with_aim(config: Config, number: u32, text: &[u8]) -> Head<'_>
+    requires lines { number + length text.now < 2 ^ 32 }
+    requires settings { is_config config ≡ true }
+    ensures aimed { behind_of result ≡ with_aim (record { it = config; next = number; lines = lines_of text.now }) }
+    ensures limits { is_config result.config ≡ true }
+    ensures lines { result.number + length result.rest.now ≤ number + length text.now }
+{
+    let mut line = number;
+    let mut rest = text;
+    'lines: while !rest.is_empty() {
+        let cut = first_line(rest);
+        if is_skipped(cut.line, cut.ended) {
+            line += 1;
+            rest = cut.rest;
+            continue;
+        }
+        return match aim_in(cut.line, cut.ended) {
+            Some(aim) => Head {
+                config: Config { aim, ..config },
+                number: line + 1,
+                rest: cut.rest,
+            },
+            None => Head {
+                config,
+                number,
+                rest: text,
+            },
+        };
+    }
+    Head {
+        config,
+        number,
+        rest: text,
+    }
+}
+
+/// Whether a line may stand there and says nothing.
+fn is_skipped(line: &[u8], ended: bool) -> bool
+    ensures { result ≡ is_skipped (record { bytes = line.now; ended = ended }) }
+{
+    line.len() <= LONGEST_LINE && ended && says_nothing(line)
+}
+
+/// The aim that a line sets, where it sets one.
+fn aim_in(line: &[u8], ended: bool) -> Option<Aim>
+    ensures { result ≡ aim_in (record { bytes = line.now; ended = ended }) }
+{
+    if !ended {
+        return None;
+    }
+    if line == b"hash create".as_slice() {
+        return Some(Aim::Create);
+    }
+    if line == b"hash least".as_slice() {
+        return Some(Aim::Least);
+    }
+    None
+}
+
 /// Whether two kinds of scripts are one.
 fn same_kind(left: ScriptKind, right: ScriptKind) -> bool
     ensures { result ≡ same_kind left right }
@@ -222,11 +286,11 @@ fn same_kind(left: ScriptKind, right: ScriptKind) -> bool
 }
 
 /// Refuses a first line that doesn't name the kind that is asked for.
-#[tactic(auto, unfolding(crate::specs::Settings::is_kind_line))]
-fn is_kind_line(kind: ScriptKind, line: &[u8], ended: bool) -> Result<(), LineFault>
-    ensures { Says result (is_kind_line kind (record { bytes = line.now; ended = ended })) }
+#[tactic(auto, unfolding(crate::specs::Settings::needs_kind_line))]
+fn needs_kind_line(kind: ScriptKind, line: &[u8], ended: bool) -> Result<(), LineFault>
+    ensures { Says result (needs_kind_line kind (record { bytes = line.now; ended = ended })) }
 {
-    is_whole(line, ended)?;
+    needs_whole(line, ended)?;
     let (word, rest) = read_kind(line)?;
     read_end(rest)?;
     needs(same_kind(word.kind, kind), Reason::OtherKind)
@@ -247,8 +311,11 @@ pub(crate) fn read_head(kind: ScriptKind, text: &[u8]) -> Result<Head<'_>, Scrip
         });
     }
     let cut = first_line(text);
-    match is_kind_line(kind, cut.line, cut.ended) {
-        Ok(()) => read_settings(2, cut.rest),
+    match needs_kind_line(kind, cut.line, cut.ended) {
+        Ok(()) => {
+            let head = read_settings(2, cut.rest)?;
+            Ok(with_aim(head.config, head.number, head.rest))
+        }
         Err(fault) => Err(on_line(1, fault)),
     }
 }

@@ -16,8 +16,8 @@ use crate::readers::{
     read_end, read_key_field, read_last_key, read_last_number, read_number_field, read_pipeline,
 };
 use crate::rules::{
-    call_within, has_kind, has_segment, is_made, is_new, is_typed, lifespan_within, node_within,
-    request_within, segment_within, ticks_within,
+    call_within, lifespan_within, needs_kind, needs_made, needs_new, needs_segment, needs_typed,
+    node_within, request_within, segment_within, ticks_within,
 };
 use crate::words::{
     BareWord, CallWord, CopyWord, StepWord, UnitWord, read_guarantee, read_step_word,
@@ -70,9 +70,9 @@ fn read_put(alloc: Global, known: &Known, text: &[u8]) -> Result<Order, LineFaul
     let words = read_put_words(alloc, text)?;
     let node = node_within(words.node)?;
     let lifespan = lifespan_within(words.lifespan)?;
-    known.members.is_live(node)?;
-    has_segment(&known.config, &words.key)?;
-    has_kind(&known.config, &words.datum)?;
+    known.members.needs_live(node)?;
+    needs_segment(&known.config, &words.key)?;
+    needs_kind(&known.config, &words.datum)?;
     Ok(Order::One(Command::Put {
         by: SessionId::new(0),
         node,
@@ -92,8 +92,8 @@ fn read_erase(known: &Known, text: &[u8]) -> Result<Order, LineFault>
     let (number, rest) = read_number_field(text)?;
     let key = read_last_key(rest)?;
     let node = node_within(number)?;
-    known.members.is_live(node)?;
-    has_segment(&known.config, &key)?;
+    known.members.needs_live(node)?;
+    needs_segment(&known.config, &key)?;
     Ok(Order::One(Command::Erase {
         by: SessionId::new(0),
         node,
@@ -139,9 +139,9 @@ fn read_call(alloc: Global, known: &Known, text: &[u8]) -> Result<Order, LineFau
     let call = call_within(words.call)?;
     let node = node_within(words.node)?;
     let request = request_within(words.asked)?;
-    known.members.is_live(node)?;
-    is_new(&known.calls, call)?;
-    is_typed(&known.config, &request.pipeline)?;
+    known.members.needs_live(node)?;
+    needs_new(&known.calls, call)?;
+    needs_typed(&known.config, &request.pipeline)?;
     Ok(Order::One(Command::Call {
         by: SessionId::new(0),
         call,
@@ -194,7 +194,7 @@ fn read_install(known: &Known, text: &[u8]) -> Result<Order, LineFault>
 {
     let number = read_last_number(text)?;
     let node = node_within(number)?;
-    known.members.is_live(node)?;
+    known.members.needs_live(node)?;
     Ok(Order::One(Command::Install { node }))
 }
 
@@ -219,7 +219,7 @@ fn read_copy(known: &Known, word: CopyWord, text: &[u8]) -> Result<Order, LineFa
     let second = read_last_number(rest)?;
     let node = node_within(first)?;
     let segment = segment_within(&known.config, second)?;
-    known.members.is_live(node)?;
+    known.members.needs_live(node)?;
     Ok(copy_order(word, node, segment))
 }
 
@@ -244,7 +244,7 @@ fn read_made_call(known: &Known, word: CallWord, text: &[u8]) -> Result<Order, L
 {
     let number = read_last_number(text)?;
     let call = call_within(number)?;
-    is_made(&known.calls, call)?;
+    needs_made(&known.calls, call)?;
     Ok(call_order(word, call))
 }
 
@@ -272,7 +272,7 @@ fn read_unit(known: &Known, word: UnitWord, text: &[u8]) -> Result<Order, LineFa
     let second = read_last_number(rest)?;
     let call = call_within(first)?;
     let segment = segment_within(&known.config, second)?;
-    is_made(&known.calls, call)?;
+    needs_made(&known.calls, call)?;
     Ok(unit_order(word, call, segment))
 }
 

@@ -17,16 +17,19 @@ use Rattle.grid_script.specs.declared.script_kind.ScriptKind.TheVariants as kind
 pub was_read : {A : Type 0} (r : Result A ScriptFault) (x : A) (told : Told A) → r ≡ Ok x → Answers r told → told ≡ Ok x
 was_read r x told is answers = subst (λ (s : Result _ ScriptFault). Answers s told) is answers
 
+-- the script of a stepped run is no live one
 steps_alone : {A : Type 0} (r : Told A) (f : A → Steps) (live : Lives) → (r >>= (λ known. Ok (scripts.Step (f known)))) ≡ Ok (scripts.Live live) → ⊥
 steps_alone (Ok known) f live h = cc
 steps_alone (Err fault) f live h = cc
 
+-- nor is what follows the head of a stepped script
 body_alone : (r : Told (Behind Config)) (live : Lives) → (r >>= body_of kinds.Step) ≡ Ok (scripts.Live live) → ⊥
 unfolding body_of
 body_alone (Ok head) live h =
     steps_alone (after_all step_after (step_start head.it) head.next head.lines) (λ known. record { config = known.config; lines = known.lines }) live h
 body_alone (Err fault) live h = cc
 
+-- a script that was read isn't too long
 unless_long : (long : Bool) (r : Told Script) (live : Lives) → (if long then Err (0, TooLong) else r) ≡ Ok (scripts.Live live) → r ≡ Ok (scripts.Live live)
 unless_long true r live h = absurd (cc)
 unless_long false r live h = h

@@ -2,6 +2,7 @@
 #![tactic(auto)]
 
 mod asks;
+mod limits;
 mod plain;
 mod runs;
 mod sources;
@@ -12,6 +13,7 @@ mod texts;
 mod words;
 
 pub use asks::{Asked, Form};
+pub use limits::limits_are_these;
 pub use plain::run_plain;
 pub use status::Status;
 pub use words::asked;

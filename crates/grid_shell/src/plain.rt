@@ -10,6 +10,7 @@ ghost use Rattle.grid_script.specs.declared.reason.Reason.{Reason};
 ghost use Rattle.grid_shell.specs.Causes.{Had, IsRefusal, IsRunFront, IsRunTo, IsServable, IsWholeRun, is_of_source, is_plain};
 ghost use Rattle.grid_shell.specs.Lines.{full_line, refused_line, text_of, usage_line};
 ghost use Rattle.grid_shell.specs.Words.{asked_of};
+ghost use Rattle.step_run.specs.Finished.{IsFinished};
 ghost use Rattle.step_run.specs.RightRuns.{IsRightAndCaused};
 
 use crate::asks::Asked;
@@ -37,7 +38,8 @@ use std::alloc::Global;
 ///   of its text was written.
 /// - `NoMemory` comes wherever memory is missing. Nothing is written, and the journal is empty or
 ///   holds a front of the run.
-/// - `Done` comes in all other cases, with the whole text written.
+/// - `Done` comes in all other cases, with the whole text written. Each call that was made has an
+///   answer then, and the topology is settled.
 ///
 /// The source is read for `step` alone. The journal stays empty with `Usage`, `ReadFault` and
 /// `ScriptRefused`. Whatever comes, it is a run of the cluster, in which the answers of all calls
@@ -83,6 +85,7 @@ pub fn run_plain<S: Source, K: Sink>(
     // What stands after it.
     ensures run { is_run journal.new.history ≡ true }
     ensures right { IsRightAndCaused journal.new.history }
+    ensures finished { result ≡ Status.Done → IsFinished journal.new.history }
     ensures unused { (result ≡ Status.Usage) ⊎ (result ≡ Status.ReadFault) ⊎ (result ≡ Status.ScriptRefused)
         → journal.new.history ≡ blank }
     ensures unwritten { (result ≡ Status.ReadFault) ⊎ (result ≡ Status.NoMemory) → sink.new ≡ sink.old }
@@ -128,6 +131,7 @@ fn run_asked<S: Source, K: Sink>(
         → (result ≡ Status.Done) ⊎ (result ≡ Status.NoMemory) }
     ensures run { is_run journal.new.history ≡ true }
     ensures right { IsRightAndCaused journal.new.history }
+    ensures finished { result ≡ Status.Done → IsFinished journal.new.history }
     ensures unused { (result ≡ Status.Usage) ⊎ (result ≡ Status.ReadFault) ⊎ (result ≡ Status.ScriptRefused)
         → journal.new.history ≡ blank }
     ensures unwritten { (result ≡ Status.ReadFault) ⊎ (result ≡ Status.NoMemory) → sink.new ≡ sink.old }

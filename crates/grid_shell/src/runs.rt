@@ -9,6 +9,7 @@ ghost use Rattle.grid_io.specs.Written.{AppendsPart, Wrote};
 ghost use Rattle.grid_shell.specs.Causes.{IsRunFront, IsRunTo, IsWholeRun};
 ghost use Rattle.grid_shell.specs.Endings.{IsEnding};
 ghost use Rattle.grid_shell.specs.Lines.{full_line, refused_line, text_of};
+ghost use Rattle.step_run.specs.Finished.{IsFinished};
 ghost use Rattle.step_run.specs.RightRuns.{IsRightAndCaused};
 
 use crate::asks::Form;
@@ -43,6 +44,7 @@ pub(crate) fn run_script<K: Sink>(
         (journal.new.history ≡ blank) ⊎ IsRunFront journal.new.history script.now }
     ensures run { is_run journal.new.history ≡ true }
     ensures right { IsRightAndCaused journal.new.history }
+    ensures finished { result ≡ Status.Done → IsFinished journal.new.history }
     ensures unwritten { result ≡ Status.NoMemory → sink.new ≡ sink.old }
     ensures writes_counted { K.faults sink.old ≤ K.faults sink.new }
 {

@@ -12,6 +12,7 @@ ghost use Rattle.grid_script.specs.declared.reason.Reason.TheVariants.{TooLong};
 ghost use Rattle.grid_shell.specs.Causes.{Ends, HadScript, HasScript, IsRunFront, IsRunTo, IsSourceRefusal, IsWholeRun};
 ghost use Rattle.grid_shell.specs.Endings.{IsAnswer, IsEnding};
 ghost use Rattle.grid_shell.specs.Lines.{full_line, refused_line, text_of};
+ghost use Rattle.step_run.specs.Finished.{IsFinished};
 ghost use Rattle.step_run.specs.RightRuns.{IsRightAndCaused};
 
 use crate::asks::Form;
@@ -55,6 +56,7 @@ pub(crate) fn run_source<S: Source, K: Sink>(
         → (result ≡ Status.Done) ⊎ (result ≡ Status.NoMemory) }
     ensures run { is_run journal.new.history ≡ true }
     ensures right { IsRightAndCaused journal.new.history }
+    ensures finished { result ≡ Status.Done → IsFinished journal.new.history }
     ensures unused { (result ≡ Status.ReadFault) ⊎ (result ≡ Status.ScriptRefused) → journal.new.history ≡ blank }
     ensures unwritten { (result ≡ Status.ReadFault) ⊎ (result ≡ Status.NoMemory) → sink.new ≡ sink.old }
     ensures taken { (taken : List ℕ) × Consumes (S.left source.old) (S.left source.new) taken }
@@ -105,6 +107,7 @@ pub(crate) fn run_generated<K: Sink>(
         (journal.new.history ≡ blank) ⊎ IsRunFront journal.new.history (generated seed keys steps) }
     ensures run { is_run journal.new.history ≡ true }
     ensures right { IsRightAndCaused journal.new.history }
+    ensures finished { result ≡ Status.Done → IsFinished journal.new.history }
     ensures unwritten { result ≡ Status.NoMemory → sink.new ≡ sink.old }
     ensures writes_counted { K.faults sink.old ≤ K.faults sink.new }
 {

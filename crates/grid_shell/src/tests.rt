@@ -327,7 +327,7 @@ fn a_generated_script(rt: HostRuntime) -> Result<(), Fail> {
 }
 
 /// Such words are answered by the usage line.
-fn is_usage(alloc: Global, list: &[&[u8]]) -> Result<bool, Fail> {
+fn usage_of(alloc: Global, list: &[&[u8]]) -> Result<bool, Fail> {
     let words = words(alloc, list)?;
     let end = run(alloc, words.as_slice(), script(alloc, EMPTY)?, 0, 0)?;
     Ok(end.status == Status::Usage && end.written.as_slice() == USAGE && end.events == 0)
@@ -336,14 +336,14 @@ fn is_usage(alloc: Global, list: &[&[u8]]) -> Result<bool, Fail> {
 #[test]
 fn other_words(rt: HostRuntime) -> Result<(), Fail> {
     let alloc = rt.alloc();
-    assert!(rt; is_usage(alloc, &[])?);
-    assert!(rt; is_usage(alloc, &[b"".as_slice()])?);
-    assert!(rt; is_usage(alloc, &[b"step ".as_slice()])?);
-    assert!(rt; is_usage(alloc, &[b"step".as_slice(), b"--help"])?);
-    assert!(rt; is_usage(alloc, &[b"step".as_slice(), b"--form"])?);
-    assert!(rt; is_usage(alloc, &[b"step".as_slice(), b"--form="])?);
-    assert!(rt; is_usage(alloc, &[b"step".as_slice(), b"--keys=1"])?);
-    assert!(rt; is_usage(alloc, &[b"live".as_slice()])?);
+    assert!(rt; usage_of(alloc, &[])?);
+    assert!(rt; usage_of(alloc, &[b"".as_slice()])?);
+    assert!(rt; usage_of(alloc, &[b"step ".as_slice()])?);
+    assert!(rt; usage_of(alloc, &[b"step".as_slice(), b"--help"])?);
+    assert!(rt; usage_of(alloc, &[b"step".as_slice(), b"--form"])?);
+    assert!(rt; usage_of(alloc, &[b"step".as_slice(), b"--form="])?);
+    assert!(rt; usage_of(alloc, &[b"step".as_slice(), b"--keys=1"])?);
+    assert!(rt; usage_of(alloc, &[b"live".as_slice()])?);
     Ok(())
 }
 
@@ -351,12 +351,12 @@ fn other_words(rt: HostRuntime) -> Result<(), Fail> {
 fn words_with_options_astray(rt: HostRuntime) -> Result<(), Fail> {
     let alloc = rt.alloc();
     let twice = [b"step".as_slice(), b"--form", b"full", b"--form=full"];
-    assert!(rt; is_usage(alloc, &twice)?);
-    assert!(rt; is_usage(alloc, &[b"gen".as_slice()])?);
-    assert!(rt; is_usage(alloc, &[b"gen".as_slice(), b"07"])?);
-    assert!(rt; is_usage(alloc, &[b"gen".as_slice(), b"1000000000"])?);
-    assert!(rt; is_usage(alloc, &[b"gen".as_slice(), b"1", b"--keys", b"0"])?);
-    assert!(rt; is_usage(alloc, &[b"gen".as_slice(), b"1", b"--steps=50001"])?);
+    assert!(rt; usage_of(alloc, &twice)?);
+    assert!(rt; usage_of(alloc, &[b"gen".as_slice()])?);
+    assert!(rt; usage_of(alloc, &[b"gen".as_slice(), b"07"])?);
+    assert!(rt; usage_of(alloc, &[b"gen".as_slice(), b"1000000000"])?);
+    assert!(rt; usage_of(alloc, &[b"gen".as_slice(), b"1", b"--keys", b"0"])?);
+    assert!(rt; usage_of(alloc, &[b"gen".as_slice(), b"1", b"--steps=50001"])?);
     Ok(())
 }
 

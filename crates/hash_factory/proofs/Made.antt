@@ -1,6 +1,6 @@
 -- That hashes are made as their formulas say.
 use Rattle.std.proofs.Common.{◌≡◌, ◌≢◌, ℕ, suc, zero, ◌+◌, ◌-◌, ◌*◌, ◌/◌, ◌%◌, ◌<◌, ◌≤◌, Bool, true, false, not, ◌&&◌, cond, List, [], ◌∷◌, map, length, get_or, min, nat_eq, ◌==◌, arith, refl, sym, ap, ◌∙◌, inl, inr}
-use Rattle.std.proofs.lemmas.Bool.{ne_eqb, cases_lt, cases_order, and_from}
+use Rattle.std.proofs.lemmas.Bool.{ne_eqb, cases_lt, cases_order, and_from, or_from}
 use Rattle.std.proofs.lemmas.List.{get_or_past}
 use Rattle.std.proofs.lemmas.List.Folds.{list_any_none}
 use Rattle.std.proofs.lemmas.List.Elements.{All-from_get_or}
@@ -26,6 +26,7 @@ none_below p a (suc n) b h =
       | false ↦ none_below p (a + 1) n b (omega arith)
     ]
 
+-- no two numbers of a range, or of a part of it, are equal
 distinct_range : (p : ℕ → Bool) (a n : ℕ) → IsDistinct nat_eq (filter p (range_with_len a n))
 unfolding IsDistinct
 distinct_range p a zero = tt
@@ -84,10 +85,12 @@ all_of_range : (p : List ℕ → Bool) (f : ℕ → List ℕ) (a n : ℕ) → ((
 all_of_range p f a zero each = refl
 all_of_range p f a (suc n) each = and_from (p (f a)) (list_all p (map f (range_with_len (a + 1) n))) (each a) (all_of_range p f (a + 1) n each)
 
+-- where each number passes, all made of a range pass
 all_numbers : (p : ℕ → Bool) (f : ℕ → ℕ) (a n : ℕ) → ((s : ℕ) → p (f s) ≡ true) → list_all p (map f (range_with_len a n)) ≡ true
 all_numbers p f a zero each = refl
 all_numbers p f a (suc n) each = and_from (p (f a)) (list_all p (map f (range_with_len (a + 1) n))) (each a) (all_numbers p f (a + 1) n each)
 
+-- a range that isn't empty makes owners
 owner_of_some : (f : ℕ → ℕ) (n : ℕ) → 0 < n → not (is_ownerless (map f (range_with_len 0 n))) ≡ true
 owner_of_some f zero h = absurd (omega arith)
 owner_of_some f (suc n) h = refl
@@ -118,3 +121,15 @@ owned_created live segments owners some one =
 pub union_short : (x y : List ℕ) → length x ≤ 4 → length y ≤ 4 → (s : ℕ) → length (joined (owners_at (x ∷ []) s) (owners_at (y ∷ []) s)) ≤ 8
 union_short x y few few_more zero = omega (arith, joined_short x y)
 union_short x y few few_more (suc s) = let none : List ℕ = [] in omega (arith, joined_short none none)
+
+-- no member of a set is above 15
+pub members_low : (nodes : Nodes) (n : ℕ) → 16 ≤ n → among n (members nodes) ≡ false
+unfolding members
+members_low nodes n h = low (sets.contains nodes) 0 16 h
+  where
+    low : (p : ℕ → Bool) (a k : ℕ) → a + k ≤ n → among n (filter p (range_with_len a k)) ≡ false
+    low p a zero h = refl
+    low p a (suc k) h = elim (p a) as (λ b. among n (cond b (a ∷ filter p (range_with_len (a + 1) k)) (filter p (range_with_len (a + 1) k))) ≡ false) [
+      | true ↦ or_from (a == n) (among n (filter p (range_with_len (a + 1) k))) (ne_eqb a n (omega arith)) (low p (a + 1) k (omega arith))
+      | false ↦ low p (a + 1) k (omega arith)
+    ]

@@ -47,10 +47,17 @@ impl Listeners {
     pub fn new(alloc: Global) -> Result<Listeners, NoMemory>
         ensures { IfOk result (λ listeners. listeners ≡ map.empty) }
     {
-        Ok(Listeners {
+        Ok(Listeners::empty(alloc))
+    }
+
+    /// No unit is registered. It takes no memory.
+    pub fn empty(alloc: Global) -> Listeners
+        ensures { result ≡ map.empty }
+    {
+        Listeners {
             units: BTreeMap::new(alloc),
             index: BTreeMap::new(alloc),
-        })
+        }
     }
 
     /// Registers the unit, which is new, at the node on the segment. It fails only where memory runs

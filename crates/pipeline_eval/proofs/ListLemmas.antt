@@ -47,9 +47,11 @@ distinct_grows (x ∷ xs) ys =
     let rest = distinct_grows xs ys in
     (filter (λ y. not (same_item x y)) rest.0, ap (λ zs. x ∷ filter (λ y. not (same_item x y)) zs) rest.1 ∙ ap (λ zs. x ∷ zs) (filter-append (λ y. not (same_item x y)) (distinct xs) rest.0))
 
+-- an item, unless it was seen
 abbrev if_new : Bool → Item → List Item
 if_new seen x = cond seen [] (x ∷ [])
 
+-- a new item is left out where it is the same as another
 filter_if_new : (b : Bool) (x y : Item) → filter (λ z. not (same_item y z)) (if_new b x) ≡ if_new (same_item y x || b) x
 filter_if_new true x y = by (same_item y x)
   where

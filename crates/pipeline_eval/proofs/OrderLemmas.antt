@@ -11,6 +11,7 @@ use Rattle.grid_base.specs.declared.datum.Datum.TheVariants.{Int, Text, Flag}
 use Rattle.pipeline_eval.specs.Values.{datum_cmp, rank, number_of, bytes_of, is_on}
 use Rattle.pipeline_eval.specs.Lists.{either_by, lesser, greater}
 
+-- an order, and then equality, is that order
 then_same : (o : Ordering) → ordering_then o Equal ≡ o
 then_same Less = refl
 then_same Equal = refl
@@ -20,6 +21,7 @@ then_same Greater = refl
 abbrev by_parts : Datum → Datum → Ordering
 by_parts = then_cmp (on rank nat_cmp) (then_cmp (on number_of int_cmp) (then_cmp (on bytes_of (slice_cmp nat_cmp)) (on is_on bool_cmp)))
 
+-- this is the order of values
 by_parts_is : (a b : Datum) → by_parts a b ≡ datum_cmp a b
 by_parts_is (Int m) (Int n) = then_same (int_cmp m n)
 by_parts_is (Int m) (Text t) = refl
@@ -31,6 +33,7 @@ by_parts_is (Flag b) (Int n) = refl
 by_parts_is (Flag b) (Text t) = refl
 by_parts_is (Flag b) (Flag c) = refl
 
+-- it is total
 by_parts_total : IsTotalOrder by_parts
 by_parts_total = then_total (on_total rank nat_cmp_total) (then_total (on_total number_of int_cmp_total) (then_total (on_total bytes_of nat_list_cmp_total) (on_total is_on bool_cmp_total)))
 
@@ -38,23 +41,28 @@ by_parts_total = then_total (on_total rank nat_cmp_total) (then_total (on_total 
 pub datum_cmp_total : IsTotalOrder datum_cmp
 datum_cmp_total = subst (λ R. IsTotalOrder R) (λ i a b. by_parts_is a b i) by_parts_total
 
+-- greater, turned round, is less
 gt_reversed : (o : Ordering) → is_gt (ordering_reverse o) ≡ is_lt o
 gt_reversed Less = refl
 gt_reversed Equal = refl
 gt_reversed Greater = refl
 
+-- what passes as less is Less
 less_only : (o : Ordering) → is_lt o ≡ true → o ≡ Less
 less_only Less h = refl
 less_only Equal h = absurd (true≢false (sym h))
 less_only Greater h = absurd (true≢false (sym h))
 
 module _ {K : Type 0} (R : K → K → Ordering) (total : IsTotalOrder R) where
+  -- less, and less again, is less
   less_chain : (a b c : K) → is_lt (R a b) ≡ true → is_lt (R b c) ≡ true → is_lt (R a c) ≡ true
   less_chain a b c p q = ap is_lt (total.trans a b c (less_only (R a b) p) (less_only (R b c) q))
 
+  -- less one way is greater the other way
   not_less : (a b : K) → is_lt (R a b) ≡ is_gt (R b a)
   not_less a b = sym (gt_reversed (R a b)) ∙ ap is_gt (sym (total.antisymm b a))
 
+  -- not less, and again not less, is not less
   none_less : (a b c : K) → is_lt (R a b) ≡ false → is_lt (R b c) ≡ false → is_lt (R a c) ≡ false
   none_less a b c p q = not_less a c ∙ upto total c b a (sym (not_less b c) ∙ q) (sym (not_less a b) ∙ p)
 
@@ -82,6 +90,7 @@ module _ {K : Type 0} (R : K → K → Ordering) (total : IsTotalOrder R) where
       by false false true p q r = absurd (true≢false (sym r ∙ none_less c b a q p))
       by false false false p q r = simp (p, q, r) refl
 
+-- a choice of two by a rule that goes in any groups goes in any groups where values may be missing
 either_by-assoc : (rule : Datum → Datum → Datum) → ((a b c : Datum) → rule (rule a b) c ≡ rule a (rule b c)) → (a b c : Option Datum) → either_by rule (either_by rule a b) c ≡ either_by rule a (either_by rule b c)
 either_by-assoc rule h None b c = refl
 either_by-assoc rule h (Some a) None None = refl
@@ -102,6 +111,7 @@ pub lesser_none : (a : Option Datum) → lesser a None ≡ a
 lesser_none None = refl
 lesser_none (Some a) = refl
 
+-- the greater of a value and none is the value
 pub greater_none : (a : Option Datum) → greater a None ≡ a
 greater_none None = refl
 greater_none (Some a) = refl

@@ -17,11 +17,13 @@ use Rattle.pipeline_eval.specs.Lists.{distinct}
 use Rattle.pipeline_eval.specs.Seen.{item_cmp, Holds, Keeps}
 use Rattle.pipeline_eval.proofs.ListLemmas.{distinct_more}
 
+-- an order, and then equality, is that order
 then_same : (o : Ordering) → ordering_then o Equal ≡ o
 then_same Less = refl
 then_same Equal = refl
 then_same Greater = refl
 
+-- two orders in turn tie exactly where both tie
 eq_then : (o p : Ordering) → is_eq (ordering_then o p) ≡ (is_eq o && is_eq p)
 eq_then Less p = refl
 eq_then Equal p = refl
@@ -51,6 +53,7 @@ tied_same (items.Entry a) (items.Datum b) = refl
 tied_same (items.Datum a) (items.Entry b) = refl
 tied_same (items.Datum a) (items.Datum b) = tied_datum a b
 
+-- something passes of a list with one element more where that element passes or something did
 any-append : (p : Item → Bool) (xs : List Item) (x : Item) → list_any p (xs ++ x ∷ []) ≡ (p x || list_any p xs)
 any-append p [] x = refl
 any-append p (y ∷ xs) x = by (p y) (p x) (list_any p xs) (list_any p (xs ++ x ∷ [])) (any-append p xs x)

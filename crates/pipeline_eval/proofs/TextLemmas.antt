@@ -11,12 +11,14 @@ use Rattle.grid_base.specs.Text.{is_text, is_text_byte}
 pub both_so : {a b : Bool} → a ≡ true → b ≡ true → (a && b) ≡ true
 both_so p q = λ i. p i && q i
 
+-- a byte of a key is one of a text
 key_byte_is_text_byte : (byte : ℕ) → is_key_byte byte ≡ true → is_text_byte byte ≡ true
 key_byte_is_text_byte byte h =
     let high : nat_le 33 byte ≡ true = first_so _ _ h in
     let above : nat_le 32 byte ≡ true = grind (arith, nat_tests) in
     both_so above (second_so (nat_le 33 byte) _ h)
 
+-- so the bytes of a key are those of a text
 key_bytes_are_text_bytes : (bytes : List ℕ) → list_all is_key_byte bytes ≡ true → list_all is_text_byte bytes ≡ true
 key_bytes_are_text_bytes [] h = refl
 key_bytes_are_text_bytes (b ∷ bs) h =
@@ -28,11 +30,13 @@ key_is_text bytes h =
     let rest : (nat_le (length bytes) 64 && list_all is_key_byte bytes) ≡ true = second_so (nat_le 1 (length bytes)) _ h in
     both_so (first_so (nat_le (length bytes) 64) _ rest) (key_bytes_are_text_bytes bytes (second_so (nat_le (length bytes) 64) _ rest))
 
+-- what passes of a list passes of its front
 all-take : (p : ℕ → Bool) (n : ℕ) (xs : List ℕ) → list_all p xs ≡ true → list_all p (take n xs) ≡ true
 all-take p zero xs h = refl
 all-take p (suc n) [] h = refl
 all-take p (suc n) (x ∷ xs) h = both_so (first_so (p x) _ h) (all-take p n xs (second_so (p x) _ h))
 
+-- and of its rest
 all-drop : (p : ℕ → Bool) (n : ℕ) (xs : List ℕ) → list_all p xs ≡ true → list_all p (drop n xs) ≡ true
 all-drop p zero xs h = h
 all-drop p (suc n) [] h = refl

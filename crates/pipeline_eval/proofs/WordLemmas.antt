@@ -32,6 +32,7 @@ prepended_none (b ∷ bs) = by (b == 32)
     by true = refl
     by false = front (between_blanks bs)
 
+-- a byte that joins the first text, behind a run, joins the run
 prepended-joined_to : (run : List ℕ) (b : ℕ) (ts : List (List ℕ)) → prepended run (joined_to b ts) ≡ prepended (run ++ b ∷ []) ts
 prepended-joined_to run b [] = refl
 prepended-joined_to run b (t ∷ ts) = ap (λ u. u ∷ ts) (sym (append_assoc run (b ∷ []) t))

@@ -17,6 +17,3 @@ pub use laws::{elements_grow, walk_is_its_elements};
 pub use operations::apply_all;
 pub use pipes::{elements_of, run_plain_pipeline};
 pub use values::compared;
-
-#[cfg(test)]
-mod tests;

@@ -25,6 +25,7 @@ behind : (ops : List Op) (i : ℕ) (o : Op) → i < length ops → o ≡ get_or 
 behind ops i o lt is = drop_more ops i o lt ∙ ap (λ x. x ∷ drop (i + 1) ops) (sym is)
 
 module _ (values : ValueKind) (last : End) (ops : List Op) (i : ℕ) (o : Op) (elements : Kind) (lt : i < length ops) (is : o ≡ get_or ops i o) where
+  -- so many operations come before the one at hand
   taken : length (take i ops) ≡ i
   taken = length-take-le i ops (omega arith)
 
@@ -85,10 +86,12 @@ kind_through-append values elements (o ∷ ops) second = elim (op_kind values el
   | Some kind ↦ kind_through-append values kind ops second
 ]
 
+-- the element behind a front is found at the length of the front
 slice_get_at : {X : Type 0} (before : List X) (o : X) (rest : List X) → slice_get (before ++ o ∷ rest) (length before) ≡ Some o
 slice_get_at [] o rest = refl
 slice_get_at (x ∷ before) o rest = slice_get_at before o rest
 
+-- nothing is found at the length of a list
 slice_get_end : {X : Type 0} (xs : List X) → slice_get xs (length xs) ≡ None
 slice_get_end [] = refl
 slice_get_end (x ∷ xs) = slice_get_end xs
@@ -97,9 +100,11 @@ slice_get_end (x ∷ xs) = slice_get_end xs
 over_place : (before : List Op) (o : Op) (rest : List Op) → is_over_at (before ++ o ∷ rest) (length before) ≡ is_over before o
 over_place before o rest = rw (slice_get_at before o rest, take_at before (o ∷ rest) (length before) refl) refl
 
+-- a number up to another is below it or is it
 split_last : (k n : ℕ) → k < suc n → (k < n) ⊎ (k ≡ n)
 split_last k n h = elim (cases_lt k n) [ inl lt ↦ inl lt | inr ge ↦ inr (omega arith) ]
 
+-- a front with one element more is the front and that element
 take_next : {X : Type 0} (before : List X) (o : X) (rest : List X) → take (suc (length before)) (before ++ o ∷ rest) ≡ before ++ o ∷ []
 take_next [] o rest = refl
 take_next (x ∷ before) o rest = ap (λ xs. x ∷ xs) (take_next before o rest)

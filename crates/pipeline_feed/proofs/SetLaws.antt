@@ -28,6 +28,7 @@ same_or true false c e = absurd (true≢false e)
 same_or false true c e = absurd (true≢false (sym e))
 same_or false false c e = refl
 
+-- a choice of no where a test is true is the opposite of the test, and the rest
 same_unless : (a b c : Bool) → a ≡ b → cond a false c ≡ (not b && c)
 same_unless true true c e = refl
 same_unless true false c e = absurd (true≢false e)
@@ -71,6 +72,7 @@ or_false : (a : Bool) → a ≡ (a || false)
 or_false true = refl
 or_false false = refl
 
+-- what is so is so, and true
 and_true : (a : Bool) → a ≡ (a && true)
 and_true true = refl
 and_true false = refl

@@ -26,10 +26,12 @@ record Halts (most : ℕ) (s : List ℕ) (left : ℕ) : Type 0 where
   pub again : (z : List ℕ) → first rest ≡ first z → pipeline_at most (taken ++ z) ≡ Err (length z)
   pub begins : BeginsText taken
 
+-- what a reader of pipelines answers: the whole text is one, or where it stops to be one
 abbrev Answers : ℕ → List ℕ → Result Pipeline ℕ → Type 0
 Answers most s (Ok p) = Whole s p
 Answers most s (Err left) = Halts most s left
 
+-- the reader answers so
 answers : (most : ℕ) (s : List ℕ) → Answers most s (pipeline_at most s)
 unfolding pipeline_at
 answers most s = go (steps_at one most [] s) (law.tells s)

@@ -18,10 +18,12 @@ abbrev pub calm : List ℕ → Bool
 calm [] = true
 calm (b ∷ s) = not (is_digit b)
 
+-- what isn't yes is no
 not_true : (b : Bool) → not b ≡ true → b ≡ false
 not_true false e = refl
 not_true true e = absurd (true≢false (sym e))
 
+-- digits are read up to bytes that aren't
 digits_stay : (limit n : ℕ) (y : List ℕ) → calm y ≡ true → digits_at limit n y ≡ (n, y)
 digits_stay limit n [] e = refl
 digits_stay limit n (b ∷ y) e = ap (λ t. cond (t && nat_le (n * 10 + (b - 48)) limit) (digits_at limit (n * 10 + (b - 48)) y) (n, b ∷ y)) (not_true (is_digit b) e)
@@ -30,9 +32,11 @@ digits_stay limit n (b ∷ y) e = ap (λ t. cond (t && nat_le (n * 10 + (b - 48)
 abbrev ReadsOn : ℕ → ℕ → List ℕ → Type 0
 ReadsOn limit n ds = 0 < n → n ≤ limit → (y : List ℕ) → positive_at limit (ds ++ y) ≡ Ok (digits_at limit n y)
 
+-- a digit from 1 to 9 is one with which a number begins
 one_digit : (n : ℕ) → 0 < n → n < 10 → (is_digit (48 + n) && nat_lt 48 (48 + n)) ≡ true
 one_digit n low high = grind (arith, nat_tests)
 
+-- a further digit of a number within the limit is read
 more_digit : (n limit : ℕ) → n ≤ limit → (is_digit (48 + n % 10) && nat_le (n / 10 * 10 + (48 + n % 10 - 48)) limit) ≡ true
 more_digit n limit high =
     let small : 48 + n % 10 ≤ 57 = omega arith in
@@ -43,6 +47,7 @@ more_digit n limit high =
     all_three : (d n limit : ℕ) → 48 ≤ d → d ≤ 57 → n ≤ limit → ((nat_le 48 d && nat_le d 57) && nat_le n limit) ≡ true
     all_three d n limit a b c = grind (arith, nat_tests)
 
+-- the digits of a number are read on
 positive_on : (limit n : ℕ) → n < 2 ^ 64 → ReadsOn limit n (decimal n)
 positive_on limit n small = decimal_by_steps (ReadsOn limit) one more n small
   where
@@ -59,6 +64,7 @@ positive_on limit n small = decimal_by_steps (ReadsOn limit) one more n small
         ∙ ap (λ t. Ok (cond t (digits_at limit (n / 10 * 10 + (48 + n % 10 - 48)) y) (n / 10, (48 + n % 10) ∷ y))) (more_digit n limit fits)
         ∙ ap (λ m. Ok (digits_at limit m y)) whole
 
+-- a number from 1 to the limit is read where it ends
 positive_full : (limit n : ℕ) (y : List ℕ) → limit < 2 ^ 64 → 0 < n → n ≤ limit → calm y ≡ true → positive_at limit (decimal n ++ y) ≡ Ok (n, y)
 positive_full limit n y small low high e = positive_on limit n (omega arith) low high y ∙ ap (λ p. Ok p) (digits_stay limit n y e)
 
@@ -69,17 +75,21 @@ first_above n y low small =
     let high = first_decimal n low small in
     omega arith
 
+-- a number that doesn't begin with 0 is read as one from 1 on
 number_other : (limit : ℕ) (s : List ℕ) → 48 < get_or s 0 0 → number_at limit s ≡ positive_at limit s
 number_other limit [] h = absurd (omega arith)
 number_other limit (b ∷ s) h = ap (λ t. cond t (Ok (0, s)) (positive_at limit (b ∷ s))) (ne_eqb b 48 (λ e. omega arith))
 
+-- an int that doesn't begin with a minus is read as a number
 int_other : (s : List ℕ) → 45 < get_or s 0 0 → int_at s ≡ with_sign pos (number_at (2 ^ 63 - 1) s)
 int_other [] h = absurd (omega arith)
 int_other (b ∷ s) h = ap (λ t. cond t (with_sign below_zero (positive_at (2 ^ 63) s)) (with_sign pos (number_at (2 ^ 63 - 1) (b ∷ s)))) (ne_eqb b 45 (λ e. omega arith))
 
+-- a number that passes the test is less
 lt_from : (m n : ℕ) → nat_lt m n ≡ true → m < n
 lt_from m n e = grind (arith, nat_tests)
 
+-- an int is read where it ends
 int_full : (z : ℤ) (y : List ℕ) → int_fits z ≡ true → calm y ≡ true → int_at (signed_decimal z ++ y) ≡ Ok (z, y)
 int_full (pos zero) y fits e = ap (λ t. int_at (t ++ y)) (decimal_digit 0 (omega arith))
 int_full (pos (suc n)) y fits e =
@@ -124,6 +134,7 @@ int_begins (b ∷ s) p e = (begins (b == 45) refl (b == 48) refl (is_digit b) re
         ∙ e in
         cc
 
+-- a text is read up to its closing quote
 quoted_full : (t : List ℕ) (room : ℕ) (y : List ℕ) → quoted_fits room t ≡ true → quoted_at room (quoted_text t ++ y) ≡ Ok (t, y)
 quoted_full [] room y e = refl
 quoted_full (b ∷ t) room y e =
@@ -150,6 +161,7 @@ abbrev pub IsPlain : Datum → Type 0
 IsPlain (Flag b) = ⊥
 IsPlain _ = Unit {0}
 
+-- an int or a text is read where it ends, by its first byte
 pub plain_full : (d : Datum) (y : List ℕ) → IsPlain d → datum_fits d ≡ true → calm y ≡ true → (begins_plain (datum_text d ++ y) ≡ true) × (plain_at (datum_text d ++ y) ≡ Ok (d, y))
 plain_full (Int z) y is fits e =
     let read = int_full z y fits e in

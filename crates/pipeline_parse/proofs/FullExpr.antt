@@ -25,6 +25,7 @@ use Rattle.pipeline_parse.proofs.WordLaws.{both_true}
 abbrev pub Ends : {A : Type 0} → Read A → A → List ℕ → ℕ → ℕ → Type 0
 Ends r x y depth size = (r ≡ Ok (x, y)) ⊎ ((left : ℕ) × (r ≡ Err left) × (left + depth ≤ size))
 
+-- what is the same reading ends the same way
 pub ends_along : {A : Type 0} (r q : Read A) (x : A) (y : List ℕ) (depth size : ℕ) → r ≡ q → Ends q x y depth size → Ends r x y depth size
 ends_along r q x y depth size e (inl f) = inl (e ∙ f)
 ends_along r q x y depth size e (inr f) = inr (f.0, e ∙ f.1, f.2)
@@ -54,9 +55,11 @@ level a (suc inner) y b s e on =
     (ap (expr_at (suc inner)) e ∙ expr_level (suc inner) (b ∷ s) (omega arith) ∙ ap (λ d. layer_at (expr_at d) (b ∷ s)) (let one : suc inner - 1 ≡ inner = omega arith in one))
     (ends_within (layer_at (expr_at inner) (b ∷ s)) a y inner (length s) (suc inner) (length (expr_text a ++ y)) (omega arith) (on inner refl))
 
+-- three texts and a rest, one behind the other
 three_on : (a b c d y : List ℕ) → (a ++ (b ++ (c ++ d))) ++ y ≡ a ++ (b ++ (c ++ (d ++ y)))
 three_on a b c d y = simp append_assoc
 
+-- behind the word of a form that form is read
 form_enters : (inner : List ℕ → Read Expr) (f : Form) (s : List ℕ) → layer_at inner (form_word f ++ s) ≡ form_at inner f s
 unfolding layer_at
 form_enters inner form.Key s = refl
@@ -69,6 +72,7 @@ form_enters inner form.Not s = refl
 form_enters inner form.Length s = refl
 form_enters inner form.Starts s = refl
 
+-- the sign between two expressions is read of itself
 between_own : (w : Between) (s : List ℕ) → word_at between_word signs (between_word w ++ s) ≡ Ok (w, s)
 between_own sign.Add s = refl
 between_own sign.Sub s = refl
@@ -78,6 +82,7 @@ between_own sign.Less s = refl
 between_own sign.And s = refl
 between_own sign.Or s = refl
 
+-- a sign isn't a digit
 between_calm : (w : Between) (s : List ℕ) → calm (between_word w ++ s) ≡ true
 between_calm sign.Add s = refl
 between_calm sign.Sub s = refl
@@ -93,23 +98,28 @@ word_full f a b w first text is depth y fit quiet =
     level a depth y b (w ++ y) (ap (λ t. t ++ y) (text ∙ first))
     (λ inner _. inl (ap (λ t. layer_at (expr_at inner) (t ++ y)) (sym first) ∙ form_enters (expr_at inner) f y ∙ is (expr_at inner) y))
 
+-- the text of the key is read
 key_full : Full e.Key
 unfolding form_at
 key_full = word_full form.Key e.Key 107 (codes "ey") refl text_Key (λ inner s. refl)
 
+-- the text of the value is read
 value_full : Full e.Value
 unfolding form_at
 value_full = word_full form.Value e.Value 118 (codes "alue") refl text_Value (λ inner s. refl)
 
+-- the text of the element itself is read
 it_full : Full e.It
 unfolding form_at
 it_full = word_full form.It e.It 105 (codes "t") refl text_It (λ inner s. refl)
 
+-- the text of a flag is read
 flag_full : (b : Bool) → Full (e.Lit (datum.Flag b))
 unfolding form_at
 flag_full true = word_full (form.Flag true) (e.Lit (datum.Flag true)) 116 (codes "rue") refl (text_Lit (datum.Flag true)) (λ inner s. refl)
 flag_full false = word_full (form.Flag false) (e.Lit (datum.Flag false)) 102 (codes "alse") refl (text_Lit (datum.Flag false)) (λ inner s. refl)
 
+-- the text of an int or a text is read
 plain_level : (d : Datum) → IsPlain d → Full (e.Lit d)
 unfolding layer_at
 plain_level d is depth y fit quiet = go (datum_text d ++ y) refl
@@ -130,6 +140,7 @@ plain_level d is depth y fit quiet = go (datum_text d ++ y) refl
         ∙ ap (λ r. r >>= (λ p. Ok (e.Lit p.0, p.1))) read.1
         ))
 
+-- the text of any literal is read
 lit_full : (d : Datum) → Full (e.Lit d)
 lit_full (datum.Int z) = plain_level (datum.Int z) tt
 lit_full (datum.Text t) = plain_level (datum.Text t) tt
@@ -139,6 +150,7 @@ lit_full (datum.Flag b) = flag_full b
 pub behind_le : (a b : List ℕ) → length b ≤ length (a ++ b)
 behind_le a b = omega (arith, length-append a b)
 
+-- the text of two joined expressions is read where theirs are
 binary_full : (w : Between) (a b : Expr) → Full a → Full b → Full (joined w a b)
 unfolding form_at binary_at
 binary_full w a b full_a full_b depth y fit quiet =
@@ -198,14 +210,17 @@ closed_full f a made b w first text fit_is is same full depth y fit quiet =
         (ends_within _ a (codes ")" ++ y) inner (length (expr_text a ++ (codes ")" ++ y))) inner _ (omega arith) (full inner (codes ")" ++ y) (sym fit_is ∙ fit) refl))
         (inl (ap (λ m. Ok (m, y)) same)))
 
+-- the text of a negation is read
 not_full : (a : Expr) → Full a → Full (e.Not a)
 unfolding form_at not_at wrap
 not_full a = closed_full form.Not a (e.Not a) 110 (codes "ot(") refl (text_Not a) (fits_Not a) (λ inner s. refl) refl
 
+-- the text of a length is read
 length_full : (a : Expr) → Full a → Full (e.Length a)
 unfolding form_at length_at wrap
 length_full a = closed_full form.Length a (e.Length a) 108 (codes "ength(") refl (text_Length a) (fits_Length a) (λ inner s. refl) refl
 
+-- the text of a test of a beginning is read
 starts_full : (a b : Expr) → Full a → Full b → Full (e.Starts a b)
 unfolding form_at starts_at
 starts_full a b full_a full_b depth y fit quiet =

@@ -20,6 +20,7 @@ use Rattle.pipeline_parse.proofs.FullExpr.{Ends, behind_le, ends_along, ends_the
 use Rattle.pipeline_parse.proofs.WordLaws.{both_true}
 
 module _ (most : ℕ) where
+  -- the reader of expressions, with so many levels
   abbrev inner : List ℕ → Read Expr
   inner = expr_at most
 
@@ -27,6 +28,7 @@ module _ (most : ℕ) where
   expr_ends : (a : Expr) (y : List ℕ) (turns size : ℕ) → expr_fits a ≡ true → calm y ≡ true → turns ≤ most → length (expr_text a ++ y) ≤ size → Ends (inner (expr_text a ++ y)) a y turns size
   expr_ends a y turns size fit quiet few le = ends_within _ a y most (length (expr_text a ++ y)) turns size (omega arith) (expr_full a most y fit quiet)
 
+  -- the further expressions of a list don't begin with a digit
   further_calm : (list : List Expr) (y : List ℕ) → calm (further_text list ++ y) ≡ true
   further_calm [] y = refl
   further_calm (a ∷ list) y = refl

@@ -8,6 +8,7 @@ pub first_behind : (front y z : List ℕ) → first y ≡ first z → first (fro
 first_behind [] y z e = e
 first_behind (b ∷ front) y z e = refl
 
+-- where a rest begins like nothing it is empty
 pub none_left : (z : List ℕ) → first [] ≡ first z → z ≡ []
 none_left [] e = refl
 none_left (b ∷ z) e = cc
@@ -34,6 +35,7 @@ pub record Stops {A : Type 0} (before : List ℕ) (text : A → List ℕ) (fits 
   pub keeps : fits some ≡ true
   pub begins : text some ≡ (before ++ taken) ++ more
 
+-- what a reading tells: what it read, or where it stopped
 abbrev pub Tells : {A : Type 0} (before : List ℕ) (text : A → List ℕ) (fits : A → Bool) (r : List ℕ → Read A) (s : List ℕ) → Read A → Type 0
 Tells before text fits r s (Ok p) = Finds before text fits r s p.0 p.1
 Tells before text fits r s (Err left) = Stops before text fits r s left

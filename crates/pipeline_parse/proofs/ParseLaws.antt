@@ -29,16 +29,20 @@ use Rattle.pipeline_parse.proofs.Laws.{Exact, behind_reads, choice_reads, done_r
 use Rattle.pipeline_parse.proofs.WordLaws.{literal_then, both_true, word_reads}
 use Rattle.pipeline_parse.proofs.ValueLaws.{plain_reads}
 
+-- a test that always passes
 pub any : {A : Type 0} → A → Bool
 any x = true
 
+-- where both fit, both together fit
 pub both_fit : (a b : Bool) → a ≡ true → b ≡ true → (a && b) ≡ true
 both_fit a b e f = ap (λ x. x && b) e ∙ f
 
+-- four texts one behind the other, in other groups
 three : (a b c d : List ℕ) → ((a ++ b) ++ c) ++ d ≡ a ++ (b ++ (c ++ d))
 three a b c d = simp append_assoc
 
 module _ (inner : List ℕ → Read Expr) (law : Exact [] expr_text expr_fits inner) where
+  -- the reader of two joined expressions is exact
   binary_reads : Exact (codes "(") expr_text expr_fits (binary_at inner)
   unfolding binary_at any
   binary_reads =
@@ -53,6 +57,7 @@ module _ (inner : List ℕ → Read Expr) (law : Exact [] expr_text expr_fits in
       (joined_text s a b ∙ ap (λ x. 40 ∷ x) (sym (three (expr_text a) (between_word s) (expr_text b) (codes ")"))))
       (joined_fits s a b ∙ both_fit (expr_fits a) (expr_fits b) fa fb)))))
 
+  -- the reader of a negation is exact
   not_reads : Exact (codes "not(") expr_text expr_fits (not_at inner)
   unfolding not_at
   not_reads =
@@ -60,6 +65,7 @@ module _ (inner : List ℕ → Read Expr) (law : Exact [] expr_text expr_fits in
       (λ a fa. literal_then (codes "not(" ++ expr_text a) (codes ")") expr_text expr_fits (λ rest. Ok (e.Not a, rest))
       (done_reads expr_text expr_fits ((codes "not(" ++ expr_text a) ++ codes ")") (e.Not a) (text_Not a) (fits_Not a ∙ fa)))
 
+  -- the reader of a length is exact
   length_reads : Exact (codes "length(") expr_text expr_fits (length_at inner)
   unfolding length_at
   length_reads =
@@ -67,6 +73,7 @@ module _ (inner : List ℕ → Read Expr) (law : Exact [] expr_text expr_fits in
       (λ a fa. literal_then (codes "length(" ++ expr_text a) (codes ")") expr_text expr_fits (λ rest. Ok (e.Length a, rest))
       (done_reads expr_text expr_fits ((codes "length(" ++ expr_text a) ++ codes ")") (e.Length a) (text_Length a) (fits_Length a ∙ fa)))
 
+  -- the reader of a test of a beginning is exact
   starts_reads : Exact (codes "starts(") expr_text expr_fits (starts_at inner)
   unfolding starts_at
   starts_reads =
@@ -79,6 +86,7 @@ module _ (inner : List ℕ → Read Expr) (law : Exact [] expr_text expr_fits in
       (text_Starts a b ∙ ap (λ x. codes "starts(" ++ x) (sym (three (expr_text a) (codes ", ") (expr_text b) (codes ")"))))
       (fits_Starts a b ∙ both_fit (expr_fits a) (expr_fits b) fa fb)))))
 
+  -- the reader of each form is exact
   form_reads : (f : Form) → Exact (form_word f) expr_text expr_fits (form_at inner f)
   unfolding form_at
   form_reads form.Key = done_reads expr_text expr_fits (codes "key") e.Key text_Key fits_Key
@@ -90,10 +98,12 @@ module _ (inner : List ℕ → Read Expr) (law : Exact [] expr_text expr_fits in
   form_reads form.Length = length_reads
   form_reads form.Starts = starts_reads
 
+  -- the first byte of an int or a text
   plain_first : Option ℕ → Bool
   plain_first None = false
   plain_first (Some b) = b == 34 || (b == 45 || is_digit b)
 
+  -- the reader of one layer is exact
   layer_reads : Exact [] expr_text expr_fits (layer_at inner)
   unfolding layer_at plain_first any
   layer_reads =
@@ -120,17 +130,20 @@ abbrev pub front_text : List Expr → List ℕ
 front_text [] = []
 front_text (a ∷ list) = codes ", " ++ (expr_text a ++ front_text list)
 
+-- the text of the further expressions is their front and the closing bracket
 pub further_front : (list : List Expr) → further_text list ≡ front_text list ++ codes "]"
 further_front [] = refl
 further_front (a ∷ list) =
     ap (λ x. codes ", " ++ (expr_text a ++ x)) (further_front list) ∙ ap (λ x. codes ", " ++ x) (sym (append_assoc (expr_text a) (front_text list) (codes "]")))
 
+-- the front with one expression more
 front_push : (list : List Expr) (a : Expr) → front_text (list ++ a ∷ []) ≡ (front_text list ++ codes ", ") ++ expr_text a
 front_push [] a = ap (λ x. codes ", " ++ x) (append-nil (expr_text a))
 front_push (b ∷ list) a =
     ap (λ x. codes ", " ++ (expr_text b ++ x)) (front_push list a)
     ∙ ap (λ x. codes ", " ++ x) (sym (append_assoc (expr_text b) (front_text list ++ codes ", ") (expr_text a)) ∙ ap (λ x. x ++ expr_text a) (sym (append_assoc (expr_text b) (front_text list) (codes ", "))))
 
+-- what passes of a list and of one more passes of both
 pub all_push : {A : Type 0} (p : A → Bool) (xs : List A) (x : A) → list_all p xs ≡ true → p x ≡ true → list_all p (xs ++ x ∷ []) ≡ true
 all_push p [] x e f = ap (λ b. b && true) f
 all_push p (y ∷ xs) x e f =
@@ -138,6 +151,7 @@ all_push p (y ∷ xs) x e f =
     both_fit (p y) (list_all p (xs ++ x ∷ [])) parts.0 (all_push p xs x parts.1 f)
 
 module _ (inner : List ℕ → Read Expr) (law : Exact [] expr_text expr_fits inner) where
+  -- all expressions of a list fit
   abbrev further_fits : List Expr → Bool
   further_fits = list_all expr_fits
 
@@ -206,6 +220,7 @@ module _ (inner : List ℕ → Read Expr) (law : Exact [] expr_text expr_fits in
         (λ a fa. done_reads op_text op_fits (codes "flatmap " ++ spread_text a) (op.FlatMap a) refl fa)
     op_reads start.Distinct = done_reads op_text op_fits (codes "distinct") op.Distinct refl refl
 
+-- the text of operations with one more
 pub ops_push : (ops : List Op) (o : Op) → ops_text (ops ++ o ∷ []) ≡ (ops_text ops ++ op_text o) ++ codes " | "
 ops_push [] o = append-nil (op_text o ++ codes " | ")
 ops_push (p ∷ ops) o =

@@ -14,10 +14,12 @@ use Rattle.pipeline_parse.proofs.ParseLaws.{both_fit}
 use Rattle.pipeline_parse.proofs.ValueLaws.{plain_reads}
 use Rattle.pipeline_parse.proofs.WordLaws.{both_true, word_reads}
 
+-- the first byte of an int or a text
 abbrev plain_byte : Option ℕ → Bool
 plain_byte None = false
 plain_byte (Some b) = b == 34 || (b == 45 || is_digit b)
 
+-- the reader of flags
 abbrev flag_at : List ℕ → Read Datum
 flag_at s = word_at flag_text flags s >>= (λ p. Ok (Flag p.0, p.1))
 
@@ -50,6 +52,7 @@ record Front (room : ℕ) (s key rest : List ℕ) : Type 0 where
   pub valid : list_all is_key_byte key ≡ true
   pub again : (z : List ℕ) → first rest ≡ first z → key_bytes_at room (key ++ z) ≡ (key, z)
 
+-- the bytes that are read for a key are those in front that may stand in one
 front_tells : (s : List ℕ) (room : ℕ) → Front room s (key_bytes_at room s).0 (key_bytes_at room s).1
 front_tells [] room = record {
   whole = refl;

@@ -46,6 +46,7 @@ module _ {A : Type 0} (word : A → List ℕ) where
       ap (λ ys. word_at word ys s) (drop_more xs i x lt ∙ ap (λ y. y ∷ drop (i + 1) xs) (sym is))
       ∙ ap (λ r. first_of_two x r (word_at word (drop (i + 1) xs) s)) found
 
+  -- a word that isn't in front leaves the other choices, and how far any went
   pub word_missed : (xs : List A) (i : ℕ) (x : A) (s : List ℕ) (n left : ℕ) → i < length xs → x ≡ get_or xs i x → literal_at (word x) s ≡ Err n
       → least left (word_at word (drop i xs) s) ≡ least (min left n) (word_at word (drop (i + 1) xs) s)
   word_missed xs i x s n left lt is missed =
@@ -91,11 +92,13 @@ digits_stop limit n b s more e f = ap (digits_at limit n) e ∙ go (is_digit b &
 abbrev pub with_front : List ℕ → Read (List ℕ) → Read (List ℕ)
 with_front front r = r >>= (λ p. Ok (front ++ p.0, p.1))
 
+-- a byte read behind a front is read into the front
 with_front_byte : (front : List ℕ) (b : ℕ) (r : Read (List ℕ)) → with_front front (with_byte b r) ≡ with_front (front ++ b ∷ []) r
 with_front_byte front b (Ok p) = ap (λ x. Ok (x, p.1)) (sym (append_assoc front (b ∷ []) p.0))
 with_front_byte front b (Err n) = refl
 
 module _ (s : List ℕ) (i b : ℕ) (lt : i < length s) (is : b ≡ get_or s i 0) where
+  -- the next byte closes a text, goes into it, or stops it
   at_byte : (room : ℕ) → with_front (take i s) (quoted_at room (drop i s))
       ≡ with_front (take i s) (cond (b == 34) (Ok ([], drop (i + 1) s)) (cond (nat_lt 0 room && is_text_byte b) (with_byte b (quoted_at (room - 1) (drop (i + 1) s))) (Err (suc (length (drop (i + 1) s))))))
   at_byte room = ap (λ x. with_front (take i s) (quoted_at room x)) (drop_more s i 0 lt ∙ ap (λ x. x ∷ drop (i + 1) s) (sym is))
@@ -131,6 +134,7 @@ module _ (s : List ℕ) (i b : ℕ) (lt : i < length s) (is : b ≡ get_or s i 0
 pub quoted_ends : (s : List ℕ) (i room : ℕ) → length s ≤ i → with_front (take i s) (quoted_at (room - i) (drop i s)) ≡ Err 0
 quoted_ends s i room over = ap (λ x. with_front (take i s) (quoted_at (room - i) x)) (drop_all i s over)
 
+-- from the first byte on, with all room, the whole text is read
 pub quoted_whole : (room : ℕ) (s : List ℕ) → with_front [] (quoted_at (room - 0) s) ≡ quoted_at room s
 quoted_whole room s = ap (λ n. with_front [] (quoted_at n s)) (let e : room - 0 ≡ room = omega arith in e) ∙ same (quoted_at room s)
   where
@@ -143,6 +147,7 @@ abbrev pub key_front : List ℕ → List ℕ × List ℕ → List ℕ × List �
 key_front front r = (front ++ r.0, r.1)
 
 module _ (s : List ℕ) (i b : ℕ) (lt : i < length s) (is : b ≡ get_or s i 0) where
+  -- the next byte goes into a key, or ends it
   key_here : (room : ℕ) → key_front (take i s) (key_bytes_at room (drop i s))
       ≡ key_front (take i s) (cond (nat_lt 0 room && is_key_byte b) (before_bytes b (key_bytes_at (room - 1) (drop (i + 1) s))) ([], b ∷ drop (i + 1) s))
   key_here room = ap (λ x. key_front (take i s) (key_bytes_at room x)) (drop_more s i 0 lt ∙ ap (λ x. x ∷ drop (i + 1) s) (sym is))
@@ -172,5 +177,6 @@ key_ends s i room over =
     ∙ ap (λ x. (x, [])) (append-nil (take i s) ∙ take_all i s over ∙ sym (take_all (length s) s (omega arith)))
     ∙ ap (λ x. (take (length s) s, x)) (sym (drop_all (length s) s (omega arith)))
 
+-- from the first byte on, with all room, the whole key is read
 pub key_whole : (room : ℕ) (s : List ℕ) → key_front [] (key_bytes_at (room - 0) s) ≡ key_bytes_at room s
 key_whole room s = ap (λ n. key_bytes_at n s) (let e : room - 0 ≡ room = omega arith in e)

@@ -24,6 +24,7 @@ further_end out list i over = ap (λ l. out ++ further_text l) (sym (drop_all i 
 pub all_more : {A : Type 0} (p : A → Bool) (xs : List A) (i : ℕ) (x : A) → i < length xs → x ≡ get_or xs i x → list_all p (take i xs) ≡ true → p x ≡ true → list_all p (take (i + 1) xs) ≡ true
 all_more p xs i x lt is e f = ap (list_all p) (take_more xs i x lt ∙ ap (λ y. take i xs ++ y ∷ []) (sym is)) ∙ all_push p (take i xs) x e f
 
+-- what passes of as many as there are passes of all
 pub all_all : {A : Type 0} (p : A → Bool) (xs : List A) (i : ℕ) → length xs ≤ i → list_all p (take i xs) ≡ true → list_all p xs ≡ true
 all_all p xs i over e = ap (list_all p) (sym (take_all i xs over)) ∙ e
 
@@ -34,5 +35,6 @@ ops_step out mid done ops i o lt is e f g =
     g ∙ ap (λ t. t ++ codes " | ") (f ∙ ap (λ t. t ++ op_text o) e) ∙ sym (ops_push (take i ops) o)
     ∙ ap ops_text (sym (take_more ops i o lt ∙ ap (λ y. take i ops ++ y ∷ []) (sym is)))
 
+-- the text of as many operations as there are is the text of all
 pub ops_end : (ops : List Op) (i : ℕ) → length ops ≤ i → ops_text (take i ops) ≡ ops_text ops
 ops_end ops i over = ap ops_text (take_all i ops over)

@@ -17,12 +17,15 @@ use Rattle.pipeline_parse.proofs.WordLaws.{literal_then, both_true}
 abbrev pub quoted_text : List ℕ → List ℕ
 quoted_text t = t ++ 34 ∷ []
 
+-- a text fits the room, and has only bytes of texts
 abbrev pub quoted_fits : ℕ → List ℕ → Bool
 quoted_fits room t = nat_le (length t) room && list_all is_text_byte t
 
+-- the empty text fits
 fits_none : (room : ℕ) → quoted_fits room [] ≡ true
 fits_none room = grind (arith, nat_tests)
 
+-- a byte and a text that fits the rest of the room fit
 fits_more : (room b : ℕ) (t : List ℕ) → (nat_lt 0 room && is_text_byte b) ≡ true → quoted_fits (room - 1) t ≡ true → quoted_fits room (b ∷ t) ≡ true
 fits_more room b t goes fits =
     let g = both_true (nat_lt 0 room) (is_text_byte b) goes in
@@ -98,6 +101,7 @@ quoted_tells (b ∷ s) room = closes (b == 34) refl (nat_lt 0 room && is_text_by
         differs [] i = cc
         differs (c ∷ z) i = let one : c ≡ b = cc in ap (λ x. quoted_at room (x ∷ z)) one ∙ step false false e f z
 
+-- the reader of quoted texts is exact
 pub quoted_reads : (room : ℕ) → Exact [] quoted_text (quoted_fits room) (quoted_at room)
 quoted_reads room = record { tells = λ s. quoted_tells s room }
 
@@ -110,9 +114,11 @@ pub record Numbers (limit n : ℕ) (s : List ℕ) (m : ℕ) (y : List ℕ) : Typ
   pub within : m ≤ limit
   pub again : (z : List ℕ) → first y ≡ first z → digits_at limit n (taken ++ z) ≡ (m, z)
 
+-- a number that passes the test is at most the other
 le_from : (m n : ℕ) → nat_le m n ≡ true → m ≤ n
 le_from m n e = grind (arith, nat_tests)
 
+-- a number that passes the test is less
 lt_from : (m n : ℕ) → nat_lt m n ≡ true → m < n
 lt_from m n e = grind (arith, nat_tests)
 
@@ -170,12 +176,15 @@ digits_tells limit small (b ∷ s) n low high = go (digits_tells limit small s (
         stays [] f = cc
         stays (c ∷ z) f = let one : c ≡ b = cc in ap (λ x. digits_at limit n (x ∷ z)) one ∙ step false e z ∙ ap (λ x. (n, x ∷ z)) (sym one)
 
+-- a number is from 1 to the limit
 abbrev pub positive_fits : ℕ → ℕ → Bool
 positive_fits limit n = nat_lt 0 n && nat_le n limit
 
+-- such a number passes the test
 positive_fits_from : (limit n : ℕ) → 0 < n → n ≤ limit → positive_fits limit n ≡ true
 positive_fits_from limit n low high = grind (arith, nat_tests)
 
+-- a digit from 1 to 9 has a value from 1 to 9
 digit_value : (b : ℕ) → (is_digit b && nat_lt 48 b) ≡ true → (0 < b - 48) × (b - 48 < 10) × (48 + (b - 48) ≡ b)
 digit_value b e =
     let parts = both_true (is_digit b) (nat_lt 48 b) e in
@@ -232,9 +241,11 @@ positive_tells limit room small (b ∷ s) = go (is_digit b && nat_lt 48 b) refl
         differs [] i = cc
         differs (c ∷ z) i = let one : c ≡ b = cc in ap (λ x. positive_at limit (x ∷ z)) one ∙ step false e z
 
+-- the reader of numbers from 1 on is exact
 pub positive_reads : (limit : ℕ) → 9 ≤ limit → limit < 2 ^ 64 → Exact [] decimal (positive_fits limit) (positive_at limit)
 positive_reads limit room small = record { tells = positive_tells limit room small }
 
+-- the first byte is this one
 is_byte : ℕ → Option ℕ → Bool
 is_byte b None = false
 is_byte b (Some c) = c == b
@@ -263,12 +274,15 @@ number_reads limit room small =
 pub quoted_is_text : (s t y : List ℕ) → quoted_at 64 s ≡ Ok (t, y) → is_text t ≡ true
 quoted_is_text s t y e = (subst (Tells [] quoted_text (quoted_fits 64) (quoted_at 64) s) e (quoted_tells s 64)).keeps
 
+-- a lesser number passes the test
 to_lt : (m n : ℕ) → m < n → nat_lt m n ≡ true
 to_lt m n h = grind (arith, nat_tests)
 
+-- the negative of a number
 abbrev pub below_zero : ℕ → ℤ
 below_zero n = negsuc (n - 1)
 
+-- the reader of negative ints is exact, behind the minus
 below_reads : Exact (45 ∷ []) signed_decimal int_fits (λ y. with_sign below_zero (positive_at (2 ^ 63) y))
 below_reads =
     then_reads (45 ∷ []) decimal (positive_fits (2 ^ 63)) (positive_at (2 ^ 63)) signed_decimal int_fits (λ n y. Ok (below_zero n, y)) (positive_reads (2 ^ 63) (omega arith) (omega arith))
@@ -287,6 +301,7 @@ below_reads =
         let h : n - 1 < 2 ^ 63 = omega arith in
         to_lt (n - 1) (2 ^ 63) h
 
+-- the reader of ints from 0 on is exact
 above_reads : Exact [] signed_decimal int_fits (λ s. with_sign pos (number_at (2 ^ 63 - 1) s))
 above_reads =
     then_reads [] decimal (λ n. nat_le n (2 ^ 63 - 1)) (number_at (2 ^ 63 - 1)) signed_decimal int_fits (λ n y. Ok (pos n, y)) (number_reads (2 ^ 63 - 1) (omega arith) (omega arith))
@@ -313,9 +328,11 @@ int_reads =
         go true = refl
         go false = refl
 
+-- a text that was read, as a value
 abbrev pub as_text : Read (List ℕ) → Read Datum
 as_text r = r >>= (λ p. Ok (Text p.0, p.1))
 
+-- an int that was read, as a value
 abbrev pub as_int : Read ℤ → Read Datum
 as_int r = r >>= (λ p. Ok (Int p.0, p.1))
 

@@ -12,6 +12,7 @@ pub literal_own : (w z : List ℕ) → literal_at w (w ++ z) ≡ Ok z
 literal_own [] z = refl
 literal_own (a ∷ w) z = ap (λ t. cond t (literal_at w (w ++ z)) (Err (suc (length (w ++ z))))) (eq-eqb a a refl) ∙ literal_own w z
 
+-- where a word is read it stands in front
 literal_found : (w s y : List ℕ) → literal_at w s ≡ Ok y → s ≡ w ++ y
 literal_found [] s y e = cc
 literal_found (a ∷ w) [] y e = cc
@@ -31,6 +32,7 @@ pub record Misses (w s : List ℕ) (left : ℕ) : Type 0 where
   pub begins : w ≡ taken ++ more
   pub again : (z : List ℕ) → first rest ≡ first z → literal_at w (taken ++ z) ≡ Err (length z)
 
+-- where it isn't read it stops behind the bytes that it shares
 pub literal_missed : (w s : List ℕ) (n : ℕ) → literal_at w s ≡ Err n → Misses w s n
 literal_missed [] s n e = cc
 literal_missed (a ∷ w) [] n e = record {
@@ -142,6 +144,7 @@ apart_missed (a ∷ w) (b ∷ v) z e = go (apart_missed w v z) (b == a) e
     go on true f = on f
     go on false f = (suc (length (v ++ z)), refl)
 
+-- where two tests together are true, each is
 pub both_true : (a b : Bool) → (a && b) ≡ true → (a ≡ true) × (b ≡ true)
 both_true true b e = (refl, e)
 both_true false b e = absurd (true≢false (sym e))
@@ -197,14 +200,17 @@ module _ {A : Type 0} (word : A → List ℕ) where
     pub choice : (taken ≡ []) ⊎ Choice xs taken
     pub shift : (u v z : List ℕ) → s ≡ u ++ v → length v ≤ left → first v ≡ first z → (m : ℕ) × (word_at word xs (u ++ z) ≡ Err m) × (m + length v ≡ left + length z)
 
+  -- what a choice by words tells: the word that is in front, or how far any went
   abbrev Picks : List A → List ℕ → Read A → Type 0
   Picks xs s (Ok p) = Picked xs s p.0 p.1
   Picks xs s (Err left) = Missed xs s left
 
+  -- a choice of some words is one of more
   wider : (x : A) (xs : List A) (taken : List ℕ) → (taken ≡ []) ⊎ Choice xs taken → (taken ≡ []) ⊎ Choice (x ∷ xs) taken
   wider x xs taken (inl e) = inl e
   wider x xs taken (inr c) = inr (record { x = c.x; more = c.more; begins = c.begins; passes = λ p f. c.passes p (both_true (p x) (list_all p xs) f).1 })
 
+  -- the choice by words tells so
   picks : (xs : List A) → all_apart word xs ≡ true → (s : List ℕ) → Picks xs s (word_at word xs s)
   picks [] e s = record {
     taken = [];

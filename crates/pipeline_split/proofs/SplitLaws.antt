@@ -36,6 +36,7 @@ none_before (Map e ∷ ops) h = ap (λ os. Map e ∷ os) (none_before ops h)
 none_before (FlatMap spread ∷ ops) h = ap (λ os. FlatMap spread ∷ os) (none_before ops h)
 none_before (Distinct ∷ ops) h = absurd (true≢false h)
 
+-- without a distinct nothing is behind it
 none_behind : (ops : List Op) → list_any is_distinct ops ≡ false → from_distinct ops ≡ []
 none_behind [] h = refl
 none_behind (Filter e ∷ ops) h = none_behind ops h

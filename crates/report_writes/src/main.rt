@@ -14,6 +14,7 @@ use grid_journal::report;
 use sqlite_items::Boxed;
 use std::alloc::Global;
 use std::io;
+use topology_phase::Aim;
 
 /// One node and one segment of whole numbers.
 fn settings() -> Config
@@ -26,6 +27,7 @@ fn settings() -> Config
         partition: Partition::Plain,
         values: ValueKind::Int,
         chunk: 100,
+        aim: Aim::Create,
     }
 }
 

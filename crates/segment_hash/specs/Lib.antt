@@ -1,3 +1,3 @@
 pub mod Hash
-pub mod Marked
+pub mod Members
 pub mod Segments

@@ -77,10 +77,12 @@ tied_keys j k e = exact_keys j k ((Equal-is (key_cmp j k)).0 e)
 
 -- ---- cells
 
+-- after a cell is set, it has what was set and any other cell what it had
 set_cell_at : (cells : Cells) (c : Cell) (o : Option Stamped) (q : Cell) → map_of.get (set_cell cells c o) q ≡ cond (eq_by_cmp cell_cmp q c) o (map_of.get cells q)
 set_cell_at cells c None q = map_of.get-remove cells_total cells c q
 set_cell_at cells c (Some v) q = map_of.get-insert cells_total cells c v q
 
+-- one change and then another of the same cell is one change by either test
 first_or_rest : {A : Type 0} (a b c : Bool) (x y : A) → cond (a && c) x (cond (b && c) x y) ≡ cond ((a || b) && c) x y
 first_or_rest true true true x y = refl
 first_or_rest true true false x y = refl
@@ -112,6 +114,7 @@ abbrev pub either : Option Stamped → Option Stamped → Option Stamped
 either None second = second
 either (Some v) second = Some v
 
+-- three tests in other groups
 grouped : (a b c : Bool) → (a && (b && c)) ≡ ((a && b) && c)
 grouped true b c = refl
 grouped false b c = refl
@@ -133,6 +136,7 @@ put v rest stands true false true h = refl
 put v rest stands true false false h = refl
 put v rest stands false marked same h = refl
 
+-- where nothing flies, what stands is as it was
 nothing : (b : Bool) (o : Option Stamped) → o ≡ cond b (either None o) o
 nothing true o = refl
 nothing false o = refl
@@ -154,6 +158,7 @@ copy-landed_in r s touched (e ∷ es) cells q t j =
           ∙ put e.stamped (stamped_in es j) (copy_at cells q t j) ((r == q) && (t == s)) (set_of.contains touched j) (eq_by_cmp key_cmp j e.key) (λ same. ap (set_of.contains touched) (tied_keys j e.key same) ∙ no)
     ] refl
 
+-- after a landing, what flew and isn't touched stands at the receiver, and all else is as it was
 landed_fields : (provider : ℕ) (sent : Option (List ℕ)) (flying : Option (List StampedEntry)) (last : Bool) (touched : Keys) (r s : ℕ) (cells : Cells) (q t : ℕ) (j : List ℕ)
     → copy_at (landed r s (Some (record { provider = provider; sent = sent; flying = flying; last = last; touched = touched })) cells) q t j
     ≡ cond (((r == q) && (t == s)) && not (set_of.contains touched j)) (either (stamped_in (unwrap_or flying []) j) (copy_at cells q t j)) (copy_at cells q t j)
@@ -169,6 +174,7 @@ copy-landed v = landed_fields v.provider v.sent v.flying v.last v.touched
 
 -- ---- transfers
 
+-- after a change of all transfers, what is found is the changed one
 changed_in : (f : Destination → Transfer → Transfer) (ts : List (Destination × Transfer)) (d : Destination) → map_of.get (changed_all f ts) d ≡ option_map (f d) (map_of.find destination_cmp d ts)
 changed_in f [] d = map_of.get-empty destination_cmp d
 changed_in f (t ∷ ts) d =
@@ -201,6 +207,7 @@ transfer-none q t = map_of.get-empty destination_cmp (to q t)
 pub contains-touched : (touched : Keys) (k j : List ℕ) → set_of.contains (set_of.insert touched k) j ≡ (eq_by_cmp key_cmp j k || set_of.contains touched j)
 contains-touched touched k j = set_of.contains-insert nat_list_cmp_total touched k j
 
+-- a key that didn't fly doesn't fly after some of it has expired
 none_left : (clock : ℕ) (es : List StampedEntry) (k : List ℕ) → stamped_in es k ≡ None → stamped_in (unexpired clock es) k ≡ None
 none_left clock [] k h = refl
 none_left clock (e ∷ es) k h =
@@ -212,6 +219,7 @@ none_left clock (e ∷ es) k h =
       ]
     ] refl h
 
+-- what is none is None
 is_none_none : {A : Type 0} (o : Option A) → is_none o ≡ true → o ≡ None
 is_none_none None h = refl
 is_none_none (Some a) h = absurd (cc)

@@ -10,6 +10,7 @@ use Rattle.state_transfer.proofs.CellLaws.{either}
 pub faithful_start : (a b : Option Stamped) → a ≡ None → IsFaithful false true false None a b
 faithful_start a b none = (refl, (none, λ e. absurd (true≢false (sym e))))
 
+-- what flies to a key where nothing stands, as the map has it, is faithful
 flown : (last : Bool) (f a : Option Stamped) → a ≡ None → IsFaithful false false last f a f
 flown last None a none = none
 flown last (Some v) a none = (none, refl)
@@ -39,9 +40,11 @@ faithful_change true false c t p l f a x o written h = h
 faithful_change false true c t p l f a x o written h = absurd (true≢false (sym (written refl)))
 faithful_change false false c t p l f a x o written h = h
 
+-- where nothing was, nothing is left
 left_none : (clock : ℕ) (o : Option Stamped) → o ≡ None → left clock o ≡ None
 left_none clock o e = ap (left clock) e
 
+-- and so is what is left of it, or nothing
 ticked_flown : (b : Bool) (last : Bool) (a : Option Stamped) (v : Stamped) → a ≡ None → IsFaithful false false last (cond b (Some v) None) a (cond b (Some v) None)
 ticked_flown true last a v none = (none, refl)
 ticked_flown false last a v none = none

@@ -29,6 +29,7 @@ use Rattle.state_transfer.proofs.FaithfulLaws.{faithful_change, faithful_copy, f
 use Rattle.state_transfer.proofs.LeavingLaws.{copy-drops, copy-forgets, transfer-closes, transfer-drops, transfer-forgets}
 use Rattle.state_transfer.proofs.StepLaws.{copy-changes, copy-lands, copy-sends, copy-ticks, emptied, thinned, transfer-changes, transfer-lands, transfer-sends, transfer-ticks}
 
+-- the place of a transfer: its receiver and its segment
 abbrev to : ℕ → ℕ → Destination
 to receiver segment = record { receiver = receiver; segment = segment }
 
@@ -37,23 +38,29 @@ by_other_words : (t u p l : Bool) (f g a c b d : Option Stamped) → u ≡ t →
 by_other_words t u p l f g a c b d et ef ea eb h =
     subst (λ x. IsFaithful x p l g c d) (sym et) (subst (λ x. IsFaithful t p l x c d) (sym ef) (subst (λ x. IsFaithful t p l f x d) (sym ea) (subst (λ x. IsFaithful t p l f a x) (sym eb) h)))
 
+-- a changed transfer that is there was there before
 mapped_some : {f : Transfer → Transfer} (o : Option Transfer) (w : Transfer) → option_map f o ≡ Some w → (v : Transfer) × (o ≡ Some v) × (w ≡ f v)
 mapped_some None w e = absurd (none-some w e)
 mapped_some {f = f} (Some v) w e = (v, refl, sym (ap (λ o. unwrap_or o w) e))
 
+-- a transfer that was kept by a test was there, and the test is true
 kept_some : (b : Bool) (o : Option Transfer) (w : Transfer) → cond b o None ≡ Some w → (b ≡ true) × (o ≡ Some w)
 kept_some true o w e = (refl, e)
 kept_some false o w e = absurd (none-some w e)
 
+-- what is chosen by a true test is the first
 one_of : (b : Bool) (a w : Transfer) (o : Option Transfer) → b ≡ true → cond b (Some a) o ≡ Some w → w ≡ a
 one_of b a w o h e = sym (ap (λ u. unwrap_or u w) (sym (ap (λ c. cond c (Some a) o) h) ∙ e))
 
+-- a test of equal numbers may be turned
 flip : (a b : ℕ) → (a == b) ≡ (b == a)
 flip a b = nat_eq_equiv.symm a b
 
+-- numbers that pass the test are equal
 same : (a b : ℕ) → (a == b) ≡ true → a ≡ b
 same a b h = elim (cases_eq a b) [ inl e ↦ e | inr differ ↦ absurd (true≢false (sym h ∙ ne_eqb a b differ)) ]
 
+-- two tests aren't both true where the second excludes the first
 not_both : (a b : Bool) → (b ≡ true → a ≡ false) → (a && b) ≡ false
 not_both true true h = h refl
 not_both true false h = refl
@@ -61,6 +68,7 @@ not_both false b h = refl
 
 -- ---- the end and the start
 
+-- an ended transfer whose provider is there has equal copies at both nodes
 pub ended_are_equal : words.EndedTransfersAreEqual
 ended_are_equal stores kept r s v is ended there k =
     let parts = and_parts v.last (is_none v.flying) ended in
@@ -75,6 +83,7 @@ ended_are_equal stores kept r s v is ended there k =
     nothing None h = refl
     nothing (Some es) h = absurd (true≢false (sym h))
 
+-- where nothing is held all transfers are faithful
 pub nothing_is_faithful : words.NothingIsFaithful
 nothing_is_faithful = record {
   faithful = λ r s v is there k. absurd (none-some v (sym (transfer-none r s) ∙ is));
@@ -97,6 +106,7 @@ fewer a b kept less alike = record {
   apart = λ r q s v w is other. kept.apart r q s v w (less r s v is) (less q s w other);
 }
 
+-- a join leaves them faithful
 pub joins_stay : words.JoinsStayFaithful
 joins_stay stores node none kept = fewer stores (record stores { nodes = set_of.insert stores.nodes node }) kept (λ r s v is. is) (λ r s v is there.
     (before v.provider (none s r v is) there, ((λ k. refl), (λ k. refl))))
@@ -105,6 +115,7 @@ joins_stay stores node none kept = fewer stores (record stores { nodes = set_of.
     before p differ there =
         ap (λ b. b || set_of.contains stores.nodes p) (sym (unsigned_tied p node ∙ differ)) ∙ sym (set_of.contains-insert nat_cmp_total stores.nodes node p) ∙ there
 
+-- a node that drops segments leaves them faithful
 pub drops_stay : words.DropsStayFaithful
 drops_stay stores node segment none provides kept =
     let after : Stores = record stores { copying = drops node (λ s. s == segment) stores.copying } in
@@ -126,6 +137,7 @@ drops_stay stores node segment none provides kept =
       ),
     ))
 
+-- a departure leaves them faithful
 pub departures_stay : words.DeparturesStayFaithful
 departures_stay stores node none kept =
     let after : Stores = record { nodes = set_of.remove stores.nodes node; copying = drops node (λ _. true) stores.copying } in
@@ -150,9 +162,11 @@ departures_stay stores node none kept =
     not_true true h = absurd (true≢false (sym h))
     not_true false h = refl
 
+-- which transfers are there once a provider has restarted
 transfer-kept-by : (ts : Transfers) (provider r s : ℕ) → transfer_to (map_of.retain_keys ts (λ d. outlives provider (map_of.get ts d))) r s ≡ cond (outlives provider (transfer_to ts r s)) (transfer_to ts r s) None
 transfer-kept-by ts provider r s = transfer-kept ts (λ d. outlives provider (map_of.get ts d)) r s
 
+-- a restart of a provider leaves them faithful
 pub restarts_stay : words.RestartsStayFaithful
 unfolding restarts
 restarts_stay stores provider kept =
@@ -160,6 +174,7 @@ restarts_stay stores provider kept =
     (λ r s v is. (kept_some (outlives provider (transfer_to stores.copying.transfers r s)) (transfer_to stores.copying.transfers r s) v (sym (transfer-kept-by stores.copying.transfers provider r s) ∙ is)).1)
     (λ r s v is there. (there, ((λ k. refl), (λ k. refl))))
 
+-- transfers to a node that are cancelled leave the others faithful
 pub cancels_stay : words.CancelsStayFaithful
 unfolding cancels
 cancels_stay stores receiver kept =
@@ -167,6 +182,7 @@ cancels_stay stores receiver kept =
     (λ r s v is. (kept_some (not (r == receiver)) (transfer_to stores.copying.transfers r s) v (sym (transfer-kept stores.copying.transfers (λ d. not (d.receiver == receiver)) r s) ∙ is)).1)
     (λ r s v is there. (there, ((λ k. refl), (λ k. refl))))
 
+-- a forgotten segment leaves the others faithful
 pub forgotten_stay : words.ForgottenStayFaithful
 forgotten_stay stores segment kept =
     let after : Stores = record stores { copying = forgets (λ s. s == segment) stores.copying } in
@@ -180,6 +196,7 @@ forgotten_stay stores segment kept =
       ),
     ))
 
+-- where all transfers are closed they are faithful
 pub closed_stay : words.ClosedStayFaithful
 closed_stay stores kept = fewer stores (record stores { copying = closes stores.copying }) kept
     (λ r s v is. absurd (none-some v (sym (transfer-closes stores.copying r s) ∙ is)))
@@ -187,6 +204,7 @@ closed_stay stores kept = fewer stores (record stores { copying = closes stores.
 
 -- ---- what changes
 
+-- a write at receiver and provider alike, or at neither, leaves a transfer faithful at a key
 faithful_both : (r q b c t p l : Bool) (f a x o : Option Stamped) → (b ≡ true → r ≡ q) → IsFaithful t p l f a x
     → IsFaithful (cond (r && b) (c || t) t) p l f (cond (r && (b && c)) o a) (cond (q && (b && c)) o x)
 faithful_both true true b c t p l f a x o alike h = faithful_change true b c t p l f a x o (λ _. refl) h
@@ -196,10 +214,12 @@ faithful_both true false false c t p l f a x o alike h = h
 faithful_both false true true c t p l f a x o alike h = absurd (true≢false (sym (alike refl)))
 faithful_both false true false c t p l f a x o alike h = h
 
+-- a key is touched after a write where it was, or where the write touches it
 touched_so : (b : Bool) (ks : Keys) (k j : List ℕ) → set_of.contains (cond b (set_of.insert ks k) ks) j ≡ cond b (eq_by_cmp key_cmp j k || set_of.contains ks j) (set_of.contains ks j)
 touched_so true ks k j = contains-touched ks k j
 touched_so false ks k j = refl
 
+-- a write leaves all transfers faithful
 pub writes_stay : words.WritesStayFaithful
 writes_stay stores nodes segment key stamped names kept =
     let p = stores.copying in
@@ -224,6 +244,7 @@ writes_stay stores nodes segment key stamped names kept =
           ap (λ (y : Transfer). y.provider == r) (was q s x other).2 ∙ kept.apart r q s (was r s w is).0 (was q s x other).0 (was r s w is).1 (was q s x other).1;
     }
 
+-- a tick leaves all transfers faithful
 pub ticks_stay : words.TicksStayFaithful
 ticks_stay stores clock kept =
     let p = stores.copying in
@@ -256,6 +277,7 @@ ticks_stay stores clock kept =
 
 -- ---- chunks
 
+-- where a chunk may be sent, the last one wasn't and nothing flies
 quiet : (v : Transfer) → may_send (Some v) ≡ true → (v.last ≡ false) × (flying_of v ≡ [])
 quiet v may =
     let parts = and_parts (not v.last) (is_none v.flying) may in
@@ -276,6 +298,7 @@ pub record IsReady (stores : Stores) (r s provider : ℕ) (o : Option Transfer) 
   pub behind : v.sent ≡ sent_of o
   pub faithful : (j : List ℕ) → IsFaithful (set_of.contains v.touched j) (comes_after v.provider v.sent j) v.last None (cond (is_some o || false) (copy_at stores.copying.cells r s j) None) (copy_at stores.copying.cells v.provider s j)
 
+-- such a transfer is ready to be sent a chunk
 ready : (stores : Stores) (r s provider : ℕ) (o : Option Transfer) → transfer_to stores.copying.transfers r s ≡ o → set_of.contains stores.nodes provider ≡ true → goes_on o provider ≡ true → may_send o ≡ true → AreFaithful stores
     → IsReady stores r s provider o (begun o provider)
 ready stores r s provider None e there goes may kept = record {
@@ -295,6 +318,7 @@ ready stores r s provider (Some v) e there goes may kept =
           (kept.faithful r s v e (ap (set_of.contains stores.nodes) own ∙ there) j);
     }
 
+-- what is there stays where it is another place
 stays : (b c : Bool) (o : Option Stamped) → c ≡ false → cond (b || not c) o None ≡ o
 stays true c o h = refl
 stays false c o h = ap (λ x. cond (not x) o None) h
@@ -302,18 +326,23 @@ stays false c o h = ap (λ x. cond (not x) o None) h
 module _ (stores : Stores) (r s provider most : ℕ) (differ : (r == provider) ≡ false) (provides : ProvidesNone stores.copying.transfers r s)
     (none : transfer_to stores.copying.transfers provider s ≡ None) (kept : AreFaithful stores)
     (found : IsReady stores r s provider (transfer_to stores.copying.transfers r s) (begun (transfer_to stores.copying.transfers r s) provider)) where
+  -- what is copied before the chunk is sent
   abbrev p : Copying
   p = stores.copying
 
+  -- the chunk that is sent
   abbrev chunk : Portion StampedEntry
   chunk = chunk_of p r s provider most
 
+  -- what is copied after it
   abbrev after : Copying
   after = sends r s provider chunk p
 
+  -- the transfer, begun or going on
   abbrev going : Transfer
   going = begun (transfer_to p.transfers r s) provider
 
+  -- whether a place is that of the transfer
   abbrev is_it : ℕ → ℕ → Bool
   is_it q t = (q == r) && (t == s)
 
@@ -321,17 +350,21 @@ module _ (stores : Stores) (r s provider most : ℕ) (differ : (r == provider) �
   it : (q t : ℕ) (w : Transfer) → is_it q t ≡ true → transfer_to after.transfers q t ≡ Some w → w ≡ with_chunk chunk going
   it q t w here is = one_of (is_it q t) (with_chunk chunk going) w (transfer_to p.transfers q t) here (sym (transfer-sends r s provider chunk p q t) ∙ is)
 
+  -- another transfer that is there was there
   another : (q t : ℕ) (w : Transfer) → is_it q t ≡ false → transfer_to after.transfers q t ≡ Some w → transfer_to p.transfers q t ≡ Some w
   another q t w other is = ap (λ b. cond b (Some (with_chunk chunk going)) (transfer_to p.transfers q t)) (sym other) ∙ sym (transfer-sends r s provider chunk p q t) ∙ is
 
+  -- what is sent is the next chunk behind the last key sent
   sent_chunk : IsChunk p.cells going.provider s going.sent chunk
   sent_chunk =
       subst (λ n. IsChunk p.cells n s going.sent chunk) (sym found.provided)
       (subst (λ o. IsChunk p.cells provider s o chunk) (sym found.behind) (next_is_chunk p.cells provider s (sent_of (transfer_to p.transfers r s)) most))
 
+  -- the provider isn't the receiver
   turned : (going.provider == r) ≡ false
   turned = ap (λ n. n == r) found.provided ∙ flip provider r ∙ differ
 
+  -- the transfer with the chunk is faithful
   sent_faithful : (j : List ℕ) → IsFaithfulAt after.cells r s (with_chunk chunk going) j (copy_at after.cells going.provider s j)
   sent_faithful j =
       let itself : (not ((r == r) && (s == s))) ≡ false = ap (λ b. not b) (λ i. eq-eqb r r refl i && eq-eqb s s refl i) in
@@ -343,6 +376,7 @@ module _ (stores : Stores) (r s provider most : ℕ) (differ : (r == provider) �
       (stamped_in chunk.entries j) (cond (is_some (transfer_to p.transfers r s) || false) (copy_at p.cells r s j) None) (copy_at p.cells going.provider s j)
       (found.faithful j) (sent_chunk.given j) (sent_chunk.further j) (λ last ahead. sent_chunk.whole last j ahead))
 
+  -- so all transfers stay faithful
   chunk_stays : AreFaithful (record stores { copying = after })
   chunk_stays = record {
     faithful = λ q t w is held j. elim (cases_Bool (is_it q t)) [
@@ -385,6 +419,7 @@ module _ (stores : Stores) (r s provider most : ℕ) (differ : (r == provider) �
     ];
   }
 
+-- a chunk that is sent leaves all transfers faithful
 pub chunks_stay : words.ChunksStayFaithful
 chunks_stay stores r s provider most there differ goes provides none may kept =
     chunk_stays stores r s provider most differ provides none kept (ready stores r s provider (transfer_to stores.copying.transfers r s) refl there goes may kept)
@@ -414,21 +449,27 @@ unlanded stores r s absent kept =
     fewer stores (record stores { copying = lands r s p }) kept was (λ q t w is there. (there, ((λ j. cells q t j), (λ j. cells w.provider t j))))
 
 module _ (stores : Stores) (r s : ℕ) (v0 : Transfer) (here : transfer_to stores.copying.transfers r s ≡ Some v0) (kept : AreFaithful stores) where
+  -- what is copied before the landing
   abbrev from : Copying
   from = stores.copying
 
+  -- what is copied after it
   abbrev done : Copying
   done = lands r s from
 
+  -- a transfer after the landing is one before it, with what flew there gone
   emptied_from : (q t : ℕ) (w : Transfer) → transfer_to done.transfers q t ≡ Some w → (v : Transfer) × (transfer_to from.transfers q t ≡ Some v) × (w ≡ emptied r s q t v)
   emptied_from q t w is = mapped_some (transfer_to from.transfers q t) w (sym (transfer-lands r s from q t) ∙ is)
 
+  -- two tests of equal numbers, the first one turned
   turned_test : (a b c d : ℕ) → ((a == b) && (c == d)) ≡ ((b == a) && (c == d))
   turned_test a b c d = ap (λ x. x && (c == d)) (flip a b)
 
+  -- at any other place the landing moves nothing
   unmoved : (n t : ℕ) (j : List ℕ) → ((r == n) && (t == s)) ≡ false → copy_at done.cells n t j ≡ copy_at from.cells n t j
   unmoved n t j other = copy-lands r s v0 from here n t j ∙ ap (λ b. cond (b && not (set_of.contains v0.touched j)) (either (stamped_in (flying_of v0) j) (copy_at from.cells n t j)) (copy_at from.cells n t j)) other
 
+  -- the transfer that lands is faithful with nothing in flight
   landed_faithful : (j : List ℕ) → set_of.contains stores.nodes v0.provider ≡ true → IsFaithful (set_of.contains v0.touched j) (comes_after v0.provider v0.sent j) v0.last None (copy_at done.cells r s j) (copy_at done.cells v0.provider s j)
   landed_faithful j held =
       let itself : ((r == r) && (s == s)) ≡ true = λ i. eq-eqb r r refl i && eq-eqb s s refl i in
@@ -437,6 +478,7 @@ module _ (stores : Stores) (r s : ℕ) (v0 : Transfer) (here : transfer_to store
       (unmoved v0.provider s j (turned_test r v0.provider s s ∙ ap (λ b. b && (s == s)) (kept.apart r r s v0 v0 here here)))
       (faithful_land (set_of.contains v0.touched j) (comes_after v0.provider v0.sent j) v0.last (stamped_in (flying_of v0) j) (copy_at from.cells r s j) (copy_at from.cells v0.provider s j) (kept.faithful r s v0 here held j))
 
+  -- so all transfers stay faithful
   landing_stays : AreFaithful (record stores { copying = done })
   landing_stays = record {
     faithful = λ q t w is held j.
@@ -471,6 +513,7 @@ module _ (stores : Stores) (r s : ℕ) (v0 : Transfer) (here : transfer_to store
       emptied_once true o h = refl
       emptied_once false o h = h
 
+-- a landing leaves all transfers faithful
 pub landings_stay : words.LandingsStayFaithful
 landings_stay stores r s kept = by_case (transfer_to stores.copying.transfers r s) refl
   where

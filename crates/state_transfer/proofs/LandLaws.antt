@@ -15,6 +15,7 @@ use Rattle.state_transfer.specs.declared.landing.Step.{Step}
 use Rattle.state_transfer.proofs.CellLaws.{cells_total}
 use Rattle.state_transfer.proofs.WriteLaws.{cell_put_back}
 
+-- the cell of a node, a segment and a key
 abbrev cell : ℕ → ℕ → List ℕ → Cell
 cell node segment key = record { node = node; segment = segment; key = key }
 

@@ -30,18 +30,22 @@ transfer-forgets test p r s = transfer-kept p.transfers (λ d. not (test d.segme
 abbrev pub remains : ℕ → ℕ → Option Transfer → Option Transfer
 remains node receiver found = cond (outlives node (cond (not (receiver == node)) found None)) (cond (not (receiver == node)) found None) None
 
+-- which transfers are there once those to a node are cancelled
 transfer-cancels : (node : ℕ) (p : Copying) (r s : ℕ) → transfer_to (cancels node p).transfers r s ≡ cond (not (r == node)) (transfer_to p.transfers r s) None
 unfolding cancels
 transfer-cancels node p r s = transfer-kept p.transfers (λ d. not (d.receiver == node)) r s
 
+-- which transfers are there once a provider has restarted
 transfer-restarts : (node : ℕ) (p : Copying) (r s : ℕ) → transfer_to (restarts node p).transfers r s ≡ cond (outlives node (transfer_to p.transfers r s)) (transfer_to p.transfers r s) None
 unfolding restarts
 transfer-restarts node p r s = transfer-kept p.transfers (λ d. outlives node (transfer_to p.transfers d.receiver d.segment)) r s
 
+-- both leave copies as they are
 cells-restarts : (node : ℕ) (p : Copying) → (restarts node (cancels node p)).cells ≡ p.cells
 unfolding restarts cancels
 cells-restarts node p = refl
 
+-- what two tests in turn take away
 all_twice : (a b : Bool) (o : Option Stamped) → cond (not (a && true)) (cond (not b) o None) None ≡ cond (not a && not b) o None
 all_twice true b o = refl
 all_twice false b o = refl

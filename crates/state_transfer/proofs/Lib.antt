@@ -1,6 +1,6 @@
 pub mod CellLaws
 pub mod SlotLaws
-pub mod PassageLaws
+pub mod LyingLaws
 pub mod TransferTrees
 pub mod SoundLaws
 pub mod PartLaws

@@ -24,12 +24,14 @@ keys_here n s cells = map (λ cell. (cell.0.key, cell.1)) (filter (λ cell. (cel
 abbrev is_here : ℕ → ℕ → Cell → Bool
 is_here n s c = (c.node == n) && (c.segment == s)
 
+-- numbers tie where they are equal, read the other way round
 tied_number : (a b : ℕ) → is_eq (nat_cmp a b) ≡ (b == a)
 tied_number a b = unsigned_tied a b ∙ elim (cases_eq a b) [
   | inl same ↦ eq-eqb a b same ∙ sym (eq-eqb b a (sym same))
   | inr differ ↦ ne_eqb a b differ ∙ sym (ne_eqb b a (λ e. differ (sym e)))
 ]
 
+-- a cell is that of a key here exactly where it is here and has the key
 here_or_not : (n s : ℕ) (k : List ℕ) (c : Cell) → eq_by_cmp cell_cmp (record { node = n; segment = s; key = k }) c ≡ (is_here n s c && eq_by_cmp key_cmp k c.key)
 here_or_not n s k c =
     sym (tied_then (nat_cmp n c.node) (ordering_then (nat_cmp s c.segment) (key_cmp k c.key)))
@@ -41,6 +43,7 @@ here_or_not n s k c =
     grouped true b d = refl
     grouped false b d = refl
 
+-- what is found at a key here is what is found at its cell
 find_here : (n s : ℕ) (k : List ℕ) (es : List (Cell × Stamped)) → map_of.find key_cmp k (keys_here n s es) ≡ map_of.find cell_cmp (record { node = n; segment = s; key = k }) es
 find_here n s k [] = refl
 find_here n s k (e ∷ es) = elim (cases_Bool (is_here n s e.0)) [
@@ -52,18 +55,22 @@ find_here n s k (e ∷ es) = elim (cases_Bool (is_here n s e.0)) [
       ∙ ap (λ b. cond b (Some e.1) (map_of.find cell_cmp (record { node = n; segment = s; key = k }) es)) (sym (here_or_not n s k e.0 ∙ ap (λ b. b && eq_by_cmp key_cmp k e.0.key) apart))
 ]
 
+-- what holds of two tests holds of both together
 both_T : (a b : Bool) → T a → T b → T (a && b)
 both_T true b p q = q
 both_T false b p q = p
 
+-- and of both together holds of the first
 first_T : (a b : Bool) → T (a && b) → T a
 first_T true b p = tt
 first_T false b p = p
 
+-- and of the second
 second_T : (a b : Bool) → T (a && b) → T b
 second_T true b p = p
 second_T false b p = absurd p
 
+-- cells that tie in node and segment are in the order of their keys
 lower_key : (r q t : Ordering) → is_eq r ≡ true → is_eq q ≡ true → T (is_lt (ordering_then r (ordering_then q t))) → T (is_lt t)
 lower_key Less q t e f h = absurd (subst T (sym e) tt)
 lower_key Equal Less t e f h = absurd (subst T (sym f) tt)
@@ -71,6 +78,7 @@ lower_key Equal Equal t e f h = h
 lower_key Equal Greater t e f h = absurd h
 lower_key Greater q t e f h = absurd h
 
+-- numbers that are equal to one number tie
 ties : (a b n : ℕ) → (a == n) ≡ true → (b == n) ≡ true → is_eq (nat_cmp a b) ≡ true
 ties a b n e f = elim (cases_eq a n) [
   | inl same ↦ elim (cases_eq b n) [
@@ -80,6 +88,7 @@ ties a b n e f = elim (cases_eq a n) [
   | inr differ ↦ absurd (true≢false (sym e ∙ ne_eqb a n differ))
 ]
 
+-- a cell here below all cells has a key below all keys here
 below_here : (n s : ℕ) (c : Cell) (es : List (Cell × Stamped)) → is_here n s c ≡ true → T (below_all cell_cmp c es) → T (below_all key_cmp c.key (keys_here n s es))
 below_here n s c [] here h = tt
 below_here n s c (e ∷ es) here h =
@@ -95,6 +104,7 @@ below_here n s c (e ∷ es) here h =
       | false ↦ λ apart. rest
     ] refl
 
+-- so sorted cells have sorted keys here
 sorted_here : (n s : ℕ) (es : List (Cell × Stamped)) → T (map_of.is_sorted cell_cmp es) → T (map_of.is_sorted key_cmp (keys_here n s es))
 sorted_here n s [] h = tt
 sorted_here n s (e ∷ es) h =

@@ -22,19 +22,23 @@ use Rattle.state_transfer.specs.Copying.{copy_at}
 use Rattle.state_transfer.specs.Slots.{AreKept, Slots, cleared, entries_in, held, held_from, nodes_in, slot_at, ticked, with_entries}
 use Rattle.state_transfer.proofs.CellLaws.{cells_total, exact_cells, copy-kept, copy-ticked}
 
+-- the cell of a node, a segment and a key
 abbrev cell : ℕ → ℕ → List ℕ → Cell
 cell node segment key = record { node = node; segment = segment; key = key }
 
 -- ---- look-ups
 
+-- the first that there is of two
 abbrev or_else : Option Stamped → Option Stamped → Option Stamped
 or_else None second = second
 or_else (Some v) second = Some v
 
+-- what there is, or else nothing
 or_none : (o : Option Stamped) → or_else o None ≡ o
 or_none None = refl
 or_none (Some v) = refl
 
+-- what is found in two lists is what is found in the first, or else in the second
 find_append : (q : Cell) (es fs : List (Cell × Stamped)) → map_of.find cell_cmp q (es ++ fs) ≡ or_else (map_of.find cell_cmp q es) (map_of.find cell_cmp q fs)
 find_append q [] fs = refl
 find_append q (e ∷ es) fs = elim (eq_by_cmp cell_cmp q e.0) as (λ b. cond b (Some e.1) (map_of.find cell_cmp q (es ++ fs)) ≡ or_else (cond b (Some e.1) (map_of.find cell_cmp q es)) (map_of.find cell_cmp q fs)) [
@@ -42,15 +46,18 @@ find_append q (e ∷ es) fs = elim (eq_by_cmp cell_cmp q e.0) as (λ b. cond b (
   | false ↦ find_append q es fs
 ]
 
+-- a cell is found by its node, and then by its place
 placed_step : (r : Ordering) (q : Ordering) (v : Stamped) (o : Option Stamped) → cond (is_eq (ordering_then r q)) (Some v) (cond (is_eq r) o None) ≡ cond (is_eq r) (cond (is_eq q) (Some v) o) None
 placed_step Less q v o = refl
 placed_step Equal q v o = refl
 placed_step Greater q v o = refl
 
+-- what is chosen either way is the same
 either_way : (b : Bool) (o : Option Stamped) → o ≡ cond b o o
 either_way true o = refl
 either_way false o = refl
 
+-- a cell is found in a node's container exactly where it is of that node and the place is there
 find_placed : (n t s : ℕ) (k : List ℕ) (es : List (Place × Stamped)) →
     map_of.find cell_cmp (cell t s k) (map (λ e. (cell n e.0.segment e.0.key, e.1)) es) ≡ cond (is_eq (nat_cmp t n)) (map_of.find place_cmp (place s k) es) None
 find_placed n t s k [] = either_way (is_eq (nat_cmp t n)) None
@@ -58,12 +65,15 @@ find_placed n t s k (e ∷ es) =
     ap (cond (eq_by_cmp cell_cmp (cell t s k) (cell n e.0.segment e.0.key)) (Some e.1)) (find_placed n t s k es)
     ∙ placed_step (nat_cmp t n) (place_cmp (place s k) e.0) e.1 (map_of.find place_cmp (place s k) es)
 
+-- numbers that differ don't tie
 tie_no : (t n : ℕ) → (t ≡ n → ⊥) → is_eq (nat_cmp t n) ≡ false
 tie_no t n h = unsigned_tied t n ∙ ne_eqb t n h
 
+-- equal numbers tie
 tie_yes : (t n : ℕ) → t ≡ n → is_eq (nat_cmp t n) ≡ true
 tie_yes t n h = unsigned_tied t n ∙ eq-eqb t n h
 
+-- nothing is held of a node before the first
 held_below : (n t s : ℕ) (k : List ℕ) (slots : Slots) → t < n → map_of.find cell_cmp (cell t s k) (held_from n slots) ≡ None
 unfolding held_from
 held_below n t s k [] h = refl
@@ -73,6 +83,7 @@ held_below n t s k (slot ∷ slots) h =
     find_append (cell t s k) (map (λ e. (cell n e.0.segment e.0.key, e.1)) es) (held_from (suc n) slots)
     ∙ (λ i. or_else ((find_placed n t s k es ∙ ap (λ b. cond b (map_of.find place_cmp (place s k) es) None) (tie_no t n differ)) i) (held_below (suc n) t s k slots (omega arith) i))
 
+-- what is held of a node is what its container has
 held_here : (n t i s : ℕ) (k : List ℕ) (slots : Slots) → t ≡ n + i → map_of.find cell_cmp (cell t s k) (held_from n slots) ≡ map_of.get (entries_in (slot_at slots i)) (place s k)
 unfolding held_from
 held_here n t i s k [] e = sym (map_of.get-empty place_cmp (place s k))
@@ -98,6 +109,7 @@ copy-held slots t s k = map_of.get-from_entries cells_total (held_from 0 slots) 
 pub held_are : (slots : Slots) (cells : Cells) → ((t s : ℕ) (k : List ℕ) → map_of.get (entries_in (slot_at slots t)) (place s k) ≡ copy_at cells t s k) → held slots ≡ cells
 held_are slots cells h = map_of.same_map cells_total exact_cells (held slots) cells (λ q. copy-held slots q.node q.segment q.key ∙ h q.node q.segment q.key)
 
+-- a node has a container exactly where its slot has one
 some_at : (slots : Slots) (n : ℕ) → slice_index_or (map is_some slots) n false ≡ is_some (slot_at slots n)
 some_at [] n = refl
 some_at (slot ∷ slots) zero = refl
@@ -114,6 +126,7 @@ nodes_are slots nodes h = set_of.same_set nat_cmp_total set_of.nat_cmp-IsAntisym
 
 -- ---- changes of one slot
 
+-- after a slot is set, its node has it and any other node what it had
 slot_set : (slots : Slots) (at t : ℕ) (slot : Option Contents) → at < length slots → slot_at (set slots at slot) t ≡ cond (is_eq (nat_cmp t at)) slot (slot_at slots t)
 slot_set slots at t slot h = elim (cases_eq t at) [
   | inl same ↦ ap (slot_at (set slots at slot)) same ∙ get_or-set_same slots at slot None h ∙ ap (λ b. cond b slot (slot_at slots t)) (sym (tie_yes t at same))
@@ -125,17 +138,21 @@ entered : (slot : Option Contents) (es : Copies) (q : Place) → (slot ≡ None 
 entered None es q h = map_of.get-empty place_cmp q ∙ sym (h refl)
 entered (Some c) es q h = refl
 
+-- other entries leave whether a container is there
 some_with : (slot : Option Contents) (es : Copies) → is_some (with_entries es slot) ≡ is_some slot
 some_with None es = refl
 some_with (Some c) es = refl
 
+-- cells tie where their nodes and their places do
 cell_tie : (t u : ℕ) (j : List ℕ) (at s : ℕ) (k : List ℕ) → eq_by_cmp cell_cmp (cell t u j) (cell at s k) ≡ (is_eq (nat_cmp t at) && eq_by_cmp place_cmp (place u j) (place s k))
 cell_tie t u j at s k = sym (tied_then (nat_cmp t at) (place_cmp (place u j) (place s k)))
 
+-- what is kept outside of a segment
 segment_kept : (s : ℕ) (slot : Option Contents) (u : ℕ) (j : List ℕ) →
     map_of.get (map_of.retain_keys (entries_in slot) (λ p. not (p.segment == s))) (place u j) ≡ cond (not (u == s)) (map_of.get (entries_in slot) (place u j)) None
 segment_kept s slot u j = map_of.get-retain_keys (entries_in slot) (λ p. not (p.segment == s)) (place u j) (λ x e. ap (λ (p : Place). not (p.segment == s)) (sym (exact_places (place u j) x e)))
 
+-- without a container nothing is there
 none_in : (slot : Option Contents) → slot ≡ None → (q : Place) → map_of.get (entries_in slot) q ≡ None
 none_in slot e q = ap (λ o. map_of.get (entries_in o) q) e ∙ map_of.get-empty place_cmp q
 
@@ -160,6 +177,7 @@ module _ (slots : Slots) (at : ℕ) (h : at < length slots) where
       ]
       ∙ sym (contains-nodes_in slots n))
 
+  -- a container that is changed at one place changes what is held at that cell
   changed_one : (s : ℕ) (k : List ℕ) (v : Option Stamped) (es : Copies) → (slot_at slots at ≡ None → (q : Place) → map_of.get es q ≡ None)
       → ((q : Place) → map_of.get es q ≡ cond (eq_by_cmp place_cmp q (place s k)) v (map_of.get (entries_in (slot_at slots at)) q)) → (t u : ℕ) (j : List ℕ) →
       map_of.get (entries_in (slot_at (set slots at (with_entries es (slot_at slots at))) t)) (place u j) ≡ cond (eq_by_cmp cell_cmp (cell t u j) (cell at s k)) v (copy_at (held slots) t u j)
@@ -219,6 +237,7 @@ module _ (slots : Slots) (at : ℕ) (h : at < length slots) where
       ]
       ∙ sym (copy-kept (held slots) (λ c. not ((c.node == at) && true)) t u j))
 
+  -- a slot that is emptied takes its node out of the nodes
   pub nodes_left : nodes_in (set slots at None) ≡ set_of.remove (nodes_in slots) at
   nodes_left = nodes_are _ _ (λ n.
       ap is_some (slot_set slots at n None h)
@@ -240,6 +259,7 @@ module _ (slots : Slots) (at : ℕ) (h : at < length slots) where
         | inr differ ↦ ap (λ b. map_of.get (entries_in (cond b (Some c) (slot_at slots t))) (place u j)) (tie_no t at differ) ∙ sym (copy-held slots t u j)
       ])
 
+  -- a slot that is filled puts its node in
   pub nodes_joined : (c : Contents) → nodes_in (set slots at (Some c)) ≡ set_of.insert (nodes_in slots) at
   nodes_joined c = nodes_are _ _ (λ n.
       ap is_some (slot_set slots at n (Some c) h)
@@ -258,6 +278,7 @@ module _ (slots : Slots) (at : ℕ) (h : at < length slots) where
     | inr differ ↦ kept n c (sym (slot_set slots at n slot h ∙ ap (λ b. cond b slot (slot_at slots n)) (tie_no n at differ)) ∙ is)
   ]
 
+  -- other entries of one container leave containers kept
   pub kept_entries : (clock : ℕ) (es : Copies) → AreKept clock slots → AreKept clock (set slots at (with_entries es (slot_at slots at)))
   kept_entries clock es kept = kept_set clock (with_entries es (slot_at slots at)) kept (λ c is. still (slot_at slots at) refl c is)
     where
@@ -271,9 +292,11 @@ module _ (slots : Slots) (at : ℕ) (h : at < length slots) where
 -- ---- a slot that isn't there
 
 module _ (slots : Slots) (at : ℕ) (past : length slots ≤ at) where
+  -- a node past the last slot has no container
   none_past : slot_at slots at ≡ None
   none_past = get_or_past slots at None past
 
+  -- and no copy
   copy_past : (s : ℕ) (k : List ℕ) → copy_at (held slots) at s k ≡ None
   copy_past s k = copy-held slots at s k ∙ none_in (slot_at slots at) none_past (place s k)
 
@@ -287,6 +310,7 @@ module _ (slots : Slots) (at : ℕ) (past : length slots ≤ at) where
       ]
       ∙ sym (map_of.get-remove cells_total (held slots) (cell at s k) q))
 
+  -- so taking its copies away changes nothing
   pub held_kept_past : (p : ℕ → Bool) → held slots ≡ map_of.retain_keys (held slots) (λ c. not ((c.node == at) && p c.segment))
   held_kept_past p = map_of.same_map cells_total exact_cells _ _ (λ q.
       elim (cases_eq q.node at) [
@@ -297,6 +321,7 @@ module _ (slots : Slots) (at : ℕ) (past : length slots ≤ at) where
       ]
       ∙ sym (copy-kept (held slots) (λ c. not ((c.node == at) && p c.segment)) q.node q.segment q.key))
 
+  -- nor does taking it out of the nodes
   pub nodes_left_past : nodes_in slots ≡ set_of.remove (nodes_in slots) at
   nodes_left_past = nodes_are slots _ (λ n.
       elim (cases_eq n at) [
@@ -316,9 +341,11 @@ all_kept cells kept p h = map_of.same_map cells_total exact_cells _ _ (λ q.
 pub held_alike : (slots more : Slots) → ((n : ℕ) → slot_at more n ≡ slot_at slots n) → held more ≡ held slots
 held_alike slots more alike = held_are more (held slots) (λ t s k. ap (λ o. map_of.get (entries_in o) (place s k)) (alike t) ∙ sym (copy-held slots t s k))
 
+-- equal slots have equal nodes
 pub nodes_alike : (slots more : Slots) → ((n : ℕ) → slot_at more n ≡ slot_at slots n) → nodes_in more ≡ nodes_in slots
 nodes_alike slots more alike = nodes_are more (nodes_in slots) (λ n. ap is_some (alike n) ∙ sym (contains-nodes_in slots n))
 
+-- and are kept alike
 pub kept_alike : (clock : ℕ) (slots more : Slots) → ((n : ℕ) → slot_at more n ≡ slot_at slots n) → AreKept clock slots → AreKept clock more
 kept_alike clock slots more alike kept n c is = kept n c (sym (alike n) ∙ is)
 
@@ -332,9 +359,11 @@ held_all_cleared slots more s alike = held_are more _ (λ t u j.
     ∙ ap (λ o. cond (not (u == s)) o None) (sym (copy-held slots t u j))
     ∙ sym (copy-kept (held slots) (λ c. not (c.segment == s)) t u j))
 
+-- a segment that is cleared everywhere leaves the nodes
 pub nodes_all_cleared : (slots more : Slots) (s : ℕ) → ((n : ℕ) → slot_at more n ≡ cleared s (slot_at slots n)) → nodes_in more ≡ nodes_in slots
 nodes_all_cleared slots more s alike = nodes_are more (nodes_in slots) (λ n. ap is_some (alike n) ∙ some_with (slot_at slots n) _ ∙ sym (contains-nodes_in slots n))
 
+-- and leaves containers kept
 pub kept_all_cleared : (clock : ℕ) (slots more : Slots) (s : ℕ) → ((n : ℕ) → slot_at more n ≡ cleared s (slot_at slots n)) → AreKept clock slots → AreKept clock more
 kept_all_cleared clock slots more s alike kept n c is = still (slot_at slots n) refl (sym (alike n) ∙ is)
   where
@@ -345,10 +374,12 @@ kept_all_cleared clock slots more s alike kept n c is = still (slot_at slots n) 
         let same : ◌≡◌ {A = Contents} (record d { entries = map_of.retain_keys d.entries (λ p. not (p.segment == s)) }) c = ap (λ (o : Option Contents). unwrap_or o c) is in
         (ap (λ (x : Contents). x.node) (sym same) ∙ facts.0, ap (λ (x : Contents). x.clock) (sym same) ∙ facts.1)
 
+-- what is at a place after a tick is what is left at the clock
 ticked_place : (clock : ℕ) (slot : Option Contents) (u : ℕ) (j : List ℕ) → map_of.get (entries_in (ticked clock slot)) (place u j) ≡ left clock (map_of.get (entries_in slot) (place u j))
 ticked_place clock None u j = map_of.get-empty place_cmp (place u j) ∙ sym (ap (left clock) (map_of.get-empty place_cmp (place u j)))
 ticked_place clock (Some c) u j = map_of.get-retain_keys c.entries (λ p. is_fresh clock (map_of.get c.entries p)) (place u j) (λ x e. ap (is_fresh clock) (map_of.get_tied place_total c.entries (place u j) x e))
 
+-- a tick leaves whether a container is there
 some_ticked : (clock : ℕ) (slot : Option Contents) → is_some (ticked clock slot) ≡ is_some slot
 some_ticked clock None = refl
 some_ticked clock (Some c) = refl
@@ -361,9 +392,11 @@ held_all_ticked slots more clock alike = held_are more _ (λ t u j.
     ∙ ap (left clock) (sym (copy-held slots t u j))
     ∙ sym (copy-ticked clock (held slots) t u j))
 
+-- a tick everywhere leaves the nodes
 pub nodes_all_ticked : (slots more : Slots) (clock : ℕ) → ((n : ℕ) → slot_at more n ≡ ticked clock (slot_at slots n)) → nodes_in more ≡ nodes_in slots
 nodes_all_ticked slots more clock alike = nodes_are more (nodes_in slots) (λ n. ap is_some (alike n) ∙ some_ticked clock (slot_at slots n) ∙ sym (contains-nodes_in slots n))
 
+-- and keeps containers, at the later clock
 pub kept_all_ticked : (before clock : ℕ) (slots more : Slots) → ((n : ℕ) → slot_at more n ≡ ticked clock (slot_at slots n)) → AreKept before slots → AreKept clock more
 kept_all_ticked before clock slots more alike kept n c is = still (slot_at slots n) refl (sym (alike n) ∙ is)
   where
@@ -377,6 +410,7 @@ kept_all_ticked before clock slots more alike kept n c is = still (slot_at slots
 pub held_none : held [] ≡ map_of.empty
 held_none = held_are [] _ (λ t s k. map_of.get-empty place_cmp (place s k) ∙ sym (map_of.get-empty cell_cmp (cell t s k)))
 
+-- no slots have no nodes
 pub nodes_none : nodes_in [] ≡ set_of.empty
 nodes_none = nodes_are [] _ (λ n. sym (set_of.contains-empty nat_cmp n))
 
@@ -386,9 +420,11 @@ nodes_none = nodes_are [] _ (λ n. sym (set_of.contains-empty nat_cmp n))
 abbrev pub so_far : (Option Contents → Option Contents) → Slots → ℕ → ℕ → Option Contents
 so_far f slots at n = cond (nat_lt n at) (f (slot_at slots n)) (slot_at slots n)
 
+-- at first no slot is changed
 pub none_changed : (f : Option Contents → Option Contents) (slots : Slots) (n : ℕ) → slot_at slots n ≡ so_far f slots 0 n
 none_changed f slots n = ap (λ b. cond b (f (slot_at slots n)) (slot_at slots n)) (sym (le-ltb n 0 (omega arith)))
 
+-- one more slot is changed
 pub one_changed : (f : Option Contents → Option Contents) (first slots : Slots) (at : ℕ) → at < length slots → ((n : ℕ) → slot_at slots n ≡ so_far f first at n) → (n : ℕ) →
     slot_at (set slots at (f (slot_at slots at))) n ≡ so_far f first (at + 1) n
 one_changed f first slots at h before n =
@@ -404,6 +440,7 @@ one_changed f first slots at h before n =
           ]
     ]
 
+-- behind the last slot all are changed
 pub all_changed : (f : Option Contents → Option Contents) → f None ≡ None → (first slots : Slots) (at : ℕ) → length first ≤ at → ((n : ℕ) → slot_at slots n ≡ so_far f first at n) → (n : ℕ) →
     slot_at slots n ≡ f (slot_at first n)
 all_changed f none first slots at h before n =
@@ -417,6 +454,7 @@ all_changed f none first slots at h before n =
 
 -- ---- a container that is lent
 
+-- what is borrowed is there exactly where its copy is
 pub some_lent : {A : Type 0} (r : Option (Bor A)) → is_some r ≡ is_some (option_copied r)
 some_lent None = refl
 some_lent (Some b) = refl
@@ -437,6 +475,7 @@ pub both_ways : {V E P R : Type 0} (Q : Type 0) (r : Result V E) → OnOk r P �
 both_ways Q (Ok v) p e f g = f p
 both_ways Q (Err x) p e f g = g e
 
+-- a slot that has a container has one
 pub there_is : (slot : Option Contents) → is_some slot ≡ true → (c : Contents) × (slot ≡ Some c)
 there_is None h = absurd (true≢false (sym h))
 there_is (Some c) h = (c, refl)
@@ -448,6 +487,7 @@ slot_within slots n h = elim (cases_lt n (length slots)) [
   | inr past ↦ absurd (true≢false (sym h ∙ ap is_some (get_or_past slots n None past)))
 ]
 
+-- a slot that has none is empty
 pub is_absent : (slot : Option Contents) → is_some slot ≡ false → slot ≡ None
 is_absent None h = refl
 is_absent (Some c) h = absurd (true≢false h)
@@ -463,14 +503,17 @@ empty_joined node clock made joined e t =
     ∙ ap (λ o. cond (is_fresh clock o) o None) (map_of.get-empty place_cmp q)
     ∙ sym (map_of.get-empty place_cmp q))
 
+-- what follows from what holds where there is no error holds there
 pub on_ok_weaker : {V E P Q : Type 0} (r : Result V E) → (P → Q) → OnOk r P → OnOk r Q
 on_ok_weaker (Ok v) f p = f p
 on_ok_weaker (Err e) f p = tt
 
+-- and where there is one
 pub on_err_weaker : {V E P Q : Type 0} (r : Result V E) → (P → Q) → OnErr r P → OnErr r Q
 on_err_weaker (Ok v) f p = tt
 on_err_weaker (Err e) f p = f p
 
+-- what follows from what holds of what is there holds of it
 pub some_weaker : {A : Type 0} (o : Option A) (P Q : A → Type 0) → ((a : A) → P a → Q a) → IfSome o P → IfSome o Q
 some_weaker None P Q f h = tt
 some_weaker (Some a) P Q f h = f a h

@@ -45,9 +45,11 @@ sound_changed nodes before clock ts f keeps sound to =
 pub sound_marked : (nodes : Nodes) (clock : ℕ) (ts : Transfers) (at : Destination) (key : List ℕ) → AreSound nodes clock ts → AreSound nodes clock (each_changed (marks_at at key) ts)
 sound_marked nodes clock ts at key = sound_changed nodes clock clock ts (marks_at at key) (λ to t h. h)
 
+-- transfers stay sound where a key isn't touched any more
 pub sound_unmarked : (nodes : Nodes) (clock : ℕ) (ts : Transfers) (at : Destination) (key : List ℕ) → AreSound nodes clock ts → AreSound nodes clock (each_changed (unmarks_at at key) ts)
 sound_unmarked nodes clock ts at key = sound_changed nodes clock clock ts (unmarks_at at key) (λ to t h. h)
 
+-- and so where that is done only if it was marked
 pub sound_restored : (nodes : Nodes) (clock : ℕ) (ts : Transfers) (at : Destination) (key : List ℕ) (marked : Bool) → AreSound nodes clock ts → AreSound nodes clock (cond marked (each_changed (unmarks_at at key) ts) ts)
 sound_restored nodes clock ts at key true sound = sound_unmarked nodes clock ts at key sound
 sound_restored nodes clock ts at key false sound = sound
@@ -60,6 +62,7 @@ sound_landed nodes clock ts at = sound_changed nodes clock clock ts (landing at)
       | false ↦ h
     ])
 
+-- what is left by a test passes it
 all_passed : (p : StampedEntry → Bool) (es : List StampedEntry) → list_all p (filter p es) ≡ true
 all_passed p [] = refl
 all_passed p (e ∷ es) = elim (p e) as (λ b. p e ≡ b → list_all p (cond b (e ∷ filter p es) (filter p es)) ≡ true) [
@@ -89,12 +92,14 @@ sound_sent nodes clock ts at t chunk there lasts sound to =
       | inr apart ↦ ap (λ b. is_sound nodes clock to (cond b (Some (with_chunk chunk t)) (map_of.get ts to))) apart ∙ sound to
     ]
 
+-- a transfer stays sound where its receiver stays among the nodes
 sound_by : (nodes more : Nodes) (clock : ℕ) (to : Destination) (o : Option Transfer) → ((t : Transfer) → o ≡ Some t → set_of.contains nodes to.receiver ≡ true → set_of.contains more to.receiver ≡ true)
     → is_sound nodes clock to o ≡ true → is_sound more clock to o ≡ true
 sound_by nodes more clock to None keeps h = refl
 sound_by nodes more clock to (Some t) keeps h =
     λ i. keeps t refl (first_so (set_of.contains nodes to.receiver) (are_lasting clock (unwrap_or t.flying [])) h) i && second_so (set_of.contains nodes to.receiver) (are_lasting clock (unwrap_or t.flying [])) h i
 
+-- what is there is there, or something else
 or_there : (a b : Bool) → b ≡ true → (a || b) ≡ true
 or_there true b h = refl
 or_there false b h = h

@@ -17,6 +17,7 @@ use Rattle.state_transfer.specs.Copying.{Transfer, Transfers, each_changed}
 use Rattle.state_transfer.specs.Leaving.{outlives}
 use Rattle.state_transfer.proofs.CellLaws.{destinations_total, exact_destinations, same_destination, transfer-changed}
 
+-- transfers by receiver and segment
 abbrev Rows : Type 0
 Rows = List (Destination × Transfer)
 
@@ -28,6 +29,7 @@ rows_in es = map_of.from_entries es
 abbrev pub row_at : Rows → Destination → Option Transfer
 row_at es q = lookup (is_at (destination_cmp q)) es
 
+-- what is found in the map is what the rows have
 find_row : (es : Rows) (q : Destination) → map_of.find destination_cmp q es ≡ row_at es q
 find_row [] q = refl
 find_row (e ∷ es) q = ap (cond (eq_by_cmp destination_cmp q e.0) (Some e.1)) (find_row es q)
@@ -40,6 +42,7 @@ get_rows es q = map_of.get-from_entries destinations_total es q ∙ find_row es 
 pub rows_are : (es : Rows) (transfers : Transfers) → ((q : Destination) → row_at es q ≡ map_of.get transfers q) → rows_in es ≡ transfers
 rows_are es transfers h = map_of.same_map destinations_total exact_destinations _ _ (λ q. get_rows es q ∙ h q)
 
+-- a place ties with another, read either way round
 flipped : (a b : Destination) → is_at (destination_cmp a) b ≡ eq_by_cmp destination_cmp b a
 flipped a b = (eq_by_cmp_equiv destinations_total).symm a b
 
@@ -59,6 +62,7 @@ rows_changed es fs f changed = rows_are fs _ (λ q. changed q ∙ ap (option_map
 pub is_there_tied : (to q : Destination) → is_at (destination_cmp to) q ≡ is_there to q
 is_there_tied to q = flipped to q ∙ same_destination q.receiver q.segment to.receiver to.segment
 
+-- a change that changes nothing leaves what is there
 kept_as : (f : Transfer → Transfer) → ((t : Transfer) → f t ≡ t) → (o : Option Transfer) → o ≡ option_map f o
 kept_as f h None = refl
 kept_as f h (Some t) = ap Some (sym (h t))
@@ -97,6 +101,7 @@ rows_kept es fs p is = rows_are fs _ (λ q.
     ∙ ap (λ o. cond (p q) o None) (sym (get_rows es q))
     ∙ sym (map_of.get-retain_keys (rows_in es) p q (λ x e. ap p (sym (exact_destinations q x e)))))
 
+-- a transfer passes the filter exactly where it outlives the provider
 passes : (provider : ℕ) (o : Option Transfer) → option_filter (λ t. outlives provider (Some t)) o ≡ cond (outlives provider o) o None
 passes provider None = refl
 passes provider (Some t) = refl

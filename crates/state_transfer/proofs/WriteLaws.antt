@@ -19,6 +19,7 @@ use Rattle.state_transfer.specs.Changes.{changes, marks, set_at, set_cell}
 use Rattle.state_transfer.specs.Copying.{Copying, Transfer, Transfers, copy_at, each_changed, transfer_to}
 use Rattle.state_transfer.proofs.CellLaws.{cells_total, exact_cells, destinations_total, exact_destinations, copy-set_at, tied_keys, transfer-changed}
 
+-- the place of a transfer: its receiver and its segment
 abbrev to : ℕ → ℕ → Destination
 to receiver segment = record { receiver = receiver; segment = segment }
 
@@ -30,13 +31,16 @@ cells_are a b h = map_of.same_map cells_total exact_cells a b (λ q. h q.node q.
 pub transfers_are : (a b : Transfers) → ((r s : ℕ) → transfer_to a r s ≡ transfer_to b r s) → a ≡ b
 transfers_are a b h = map_of.same_map destinations_total exact_destinations a b (λ d. h d.receiver d.segment)
 
+-- a test of equal numbers may be turned
 flip : (a b : ℕ) → (a == b) ≡ (b == a)
 flip a b = nat_eq_equiv.symm a b
 
+-- what is so, or no, is so
 or_no : (b : Bool) → (b || false) ≡ b
 or_no true = refl
 or_no false = refl
 
+-- equal changes change alike
 mapped_alike : (f g : Transfer → Transfer) → ((t : Transfer) → f t ≡ g t) → (o : Option Transfer) → option_map f o ≡ option_map g o
 mapped_alike f g h None = refl
 mapped_alike f g h (Some t) = ap Some (h t)
@@ -72,6 +76,7 @@ changes_none s k o c = λ i. record {
     unmapped None = refl
     unmapped (Some t) = refl
 
+-- a key that is put in twice is in once
 twice_in : (t : Keys) (k : List ℕ) → set_of.insert (set_of.insert t k) k ≡ set_of.insert t k
 twice_in t k = set_of.same_set nat_list_cmp_total exact_keys _ _ (λ q.
     set_of.contains-insert nat_list_cmp_total (set_of.insert t k) k q
@@ -80,6 +85,7 @@ twice_in t k = set_of.same_set nat_list_cmp_total exact_keys _ _ (λ q.
       | inr apart ↦ ap (λ b. b || set_of.contains (set_of.insert t k) q) apart
     ])
 
+-- a write at one node and then at others is one at all of them
 first_then : (a b e : Bool) (o was : Option Stamped) → cond (b && e) o (cond ((a || false) && e) o was) ≡ cond ((a || b) && e) o was
 first_then true true true o was = refl
 first_then true true false o was = refl
@@ -89,6 +95,7 @@ first_then false true true o was = refl
 first_then false true false o was = refl
 first_then false false e o was = refl
 
+-- and so of the keys touched
 touched_then : (a b e : Bool) (t : Keys) (k : List ℕ) →
     cond (b && e) (set_of.insert (cond ((a || false) && e) (set_of.insert t k) t) k) (cond ((a || false) && e) (set_of.insert t k) t) ≡ cond ((a || b) && e) (set_of.insert t k) t
 touched_then true true true t k = twice_in t k
@@ -138,6 +145,7 @@ erased_more n nodes s k c = λ i. record {
 
 -- ---- the nodes listed from a place on
 
+-- what is left of a list from a place on begins with what stands there
 dropped : (i : ℕ) (xs : List ℕ) (x : ℕ) → slice_get xs i ≡ Some x → drop i xs ≡ x ∷ drop (suc i) xs
 dropped i [] x h = absurd (none-some x h)
 dropped zero (y ∷ ys) x h = λ k. ap (λ o. unwrap_or o y) h k ∷ ys
@@ -165,6 +173,7 @@ listed_none lives i xs h = ap (filter lives) (sym (drop_all i xs h))
 
 -- ---- what is taken back
 
+-- a key that wasn't in, put in and taken out, leaves the keys as they were
 out_again : (t : Keys) (k : List ℕ) → set_of.contains t k ≡ false → set_of.remove (set_of.insert t k) k ≡ t
 out_again t k absent = set_of.same_set nat_list_cmp_total exact_keys _ _ (λ q.
     set_of.contains-remove nat_list_cmp_total (set_of.insert t k) k q
@@ -174,6 +183,7 @@ out_again t k absent = set_of.same_set nat_list_cmp_total exact_keys _ _ (λ q.
       | inr apart ↦ ap (λ b. not b && (b || set_of.contains t q)) apart
     ])
 
+-- a key that is in, put in, leaves them too
 in_already : (t : Keys) (k : List ℕ) → set_of.contains t k ≡ true → set_of.insert t k ≡ t
 in_already t k there = set_of.same_set nat_list_cmp_total exact_keys _ _ (λ q.
     set_of.contains-insert nat_list_cmp_total t k q
@@ -182,14 +192,17 @@ in_already t k there = set_of.same_set nat_list_cmp_total exact_keys _ _ (λ q.
       | inr apart ↦ ap (λ b. b || set_of.contains t q) apart
     ])
 
+-- what isn't no is yes
 not_false : (b : Bool) → not b ≡ false → b ≡ true
 not_false true h = refl
 not_false false h = absurd (true≢false h)
 
+-- what isn't yes is no
 not_true : (b : Bool) → not b ≡ true → b ≡ false
 not_true true h = absurd (true≢false (sym h))
 not_true false h = refl
 
+-- only one place is that of a node and a segment
 there_is_one : (n s q t : ℕ) → is_there (to n s) (to q t) ≡ true → (q ≡ n) × (t ≡ s)
 there_is_one n s q t h = elim (cases_eq q n) [
   | inl same ↦ elim (cases_eq t s) [
@@ -221,6 +234,7 @@ marks_taken_back ts n s k false new = transfers_are _ ts (λ q t.
     same true (Some x) h = ap (λ ks. Some (record x { touched = ks })) (in_already x.touched k (not_false (set_of.contains x.touched k) (h refl)))
     same false (Some x) h = refl
 
+-- after a cell is set, it has what was set and any other cell what it had
 set_cell_at : (cells : Cells) (c : Cell) (o : Option Stamped) (q : Cell) → map_of.get (set_cell cells c o) q ≡ cond (eq_by_cmp cell_cmp q c) o (map_of.get cells q)
 set_cell_at cells c None q = map_of.get-remove cells_total cells c q
 set_cell_at cells c (Some v) q = map_of.get-insert cells_total cells c v q

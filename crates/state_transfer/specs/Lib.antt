@@ -5,7 +5,7 @@ pub mod Chunks
 pub mod Leaving
 pub mod Faithful
 pub mod Slots
-pub mod Passages
+pub mod Lying
 pub mod Calls
 pub mod Landing
 pub mod FaithfulTransfers

@@ -16,7 +16,7 @@ use crate::change::Change;
 use crate::destination::Destination;
 use crate::holders::Holders;
 use crate::landing::land_flying;
-use crate::passages::Passages;
+use crate::transfers::Transfers;
 use container_seg::Container;
 use grid_base::{Chunk, Key, NoMemory, NodeId, SegmentId, Stamped};
 use std::alloc::Global;
@@ -28,7 +28,7 @@ use topology_phase::Owners;
 #[derive(Drop)]
 pub struct Copies {
     holders: Holders,
-    passages: Passages,
+    transfers: Transfers,
 }
 
 impl Model for Copies {
@@ -37,18 +37,18 @@ impl Model for Copies {
     ghost use Rattle.std.specs.FinSet as set;
     ghost use Rattle.std.specs.Ordering.{nat_cmp};
     ghost use Rattle.grid_base.specs.contracts.stamped.Stamped as stamped;
-    ghost use Rattle.state_transfer.specs.contracts.passage.Passage as passage;
+    ghost use Rattle.state_transfer.specs.contracts.transfer.Transfer as transfer;
     ghost use Rattle.state_transfer.specs.Calls.{AreSound};
     ghost use Rattle.state_transfer.specs.Cells.{cell_cmp, cell_code, destination_cmp, destination_code};
     ghost use Rattle.state_transfer.specs.Copying.{Stores};
 
     ghost Value = { Stores };
 
-    ghost coded = { Prim.hlevel (codes, set.code {R = nat_cmp} coded_ℕ, map.code {R = cell_cmp} cell_code stamped.the_row.coded, map.code {R = destination_cmp} destination_code passage.the_row.coded) };
+    ghost coded = { Prim.hlevel (codes, set.code {R = nat_cmp} coded_ℕ, map.code {R = cell_cmp} cell_code stamped.the_row.coded, map.code {R = destination_cmp} destination_code transfer.the_row.coded) };
 
-    ghost view = { λ a. record { nodes = a.holders.nodes; copying = record { clock = a.holders.clock; cells = a.holders.cells; transfers = a.passages } } };
+    ghost view = { λ a. record { nodes = a.holders.nodes; copying = record { clock = a.holders.clock; cells = a.holders.cells; transfers = a.transfers } } };
 
-    ghost invariant = { λ a. AreSound a.holders.nodes a.holders.clock a.passages };
+    ghost invariant = { λ a. AreSound a.holders.nodes a.holders.clock a.transfers };
 }
 
 impl Copies {
@@ -59,7 +59,7 @@ impl Copies {
     {
         Ok(Copies {
             holders: Holders::new(alloc),
-            passages: Passages::new(alloc),
+            transfers: Transfers::new(alloc),
         })
     }
 
@@ -139,13 +139,13 @@ impl Copies {
         let Some(container) = self.holders.get(provider) else {
             return Ok(None);
         };
-        let Some(passage) = self.passages.get(Destination { receiver, segment }) else {
+        let Some(transfer) = self.transfers.get(Destination { receiver, segment }) else {
             return Ok(Some(container.scan_stamped(alloc, segment, None, most)?));
         };
-        if !passage.may_send() {
+        if !transfer.may_send() {
             return Ok(None);
         }
-        Ok(Some(container.scan_stamped(alloc, segment, passage.sent(), most)?))
+        Ok(Some(container.scan_stamped(alloc, segment, transfer.sent(), most)?))
     }
 
     /// Sends the next chunk of the transfer of `segment` from `provider` to `receiver`, at most
@@ -187,8 +187,8 @@ impl Copies {
     pub fn flies(&self, receiver: NodeId, segment: SegmentId) -> bool
         ensures { result ≡ flies (transfer_to self.now.copying.transfers receiver segment) }
     {
-        match self.passages.get(Destination { receiver, segment }) {
-            Some(passage) => passage.flies(),
+        match self.transfers.get(Destination { receiver, segment }) {
+            Some(transfer) => transfer.flies(),
             None => false,
         }
     }
@@ -198,8 +198,8 @@ impl Copies {
     pub fn may_send(&self, receiver: NodeId, segment: SegmentId) -> bool
         ensures { result ≡ may_send (transfer_to self.now.copying.transfers receiver segment) }
     {
-        match self.passages.get(Destination { receiver, segment }) {
-            Some(passage) => passage.may_send(),
+        match self.transfers.get(Destination { receiver, segment }) {
+            Some(transfer) => transfer.may_send(),
             None => true,
         }
     }
@@ -209,8 +209,8 @@ impl Copies {
     pub fn provider(&self, receiver: NodeId, segment: SegmentId) -> Option<NodeId>
         ensures { result ≡ provider_of (transfer_to self.now.copying.transfers receiver segment) None }
     {
-        match self.passages.get(Destination { receiver, segment }) {
-            Some(passage) => Some(passage.provider()),
+        match self.transfers.get(Destination { receiver, segment }) {
+            Some(transfer) => Some(transfer.provider()),
             None => None,
         }
     }
@@ -219,8 +219,8 @@ impl Copies {
     pub fn has_ended(&self, receiver: NodeId, segment: SegmentId) -> bool
         ensures { result ≡ is_ended (transfer_to self.now.copying.transfers receiver segment) }
     {
-        match self.passages.get(Destination { receiver, segment }) {
-            Some(passage) => passage.has_ended(),
+        match self.transfers.get(Destination { receiver, segment }) {
+            Some(transfer) => transfer.has_ended(),
             None => false,
         }
     }
@@ -240,8 +240,8 @@ impl Copies {
     {
         let flown = self.flies(receiver, segment);
         let to = Destination { receiver, segment };
-        land_flying(&mut self.holders, alloc, to, &self.passages)?;
-        self.passages.land(to);
+        land_flying(&mut self.holders, alloc, to, &self.transfers)?;
+        self.transfers.land(to);
         Ok(flown)
     }
 
@@ -259,14 +259,14 @@ impl Copies {
     pub fn restart(&mut self, provider: NodeId)
         ensures { self.new ≡ record self.old { copying = restarts provider self.old.copying } }
     {
-        self.passages.restart(provider);
+        self.transfers.restart(provider);
     }
 
     /// Takes away each transfer to `receiver`.
     pub fn cancel(&mut self, receiver: NodeId)
         ensures { self.new ≡ record self.old { copying = cancels receiver self.old.copying } }
     {
-        self.passages.cancel(receiver);
+        self.transfers.cancel(receiver);
     }
 
     /// Takes away all copies and transfers of `segment`, at every node.
@@ -274,14 +274,14 @@ impl Copies {
         ensures { self.new ≡ record self.old { copying = forgets (λ s. s == segment) self.old.copying } }
     {
         self.holders.forget(segment);
-        self.passages.forget(segment);
+        self.transfers.forget(segment);
     }
 
     /// Takes all transfers away.
     pub fn close_all(&mut self)
         ensures { self.new ≡ record self.old { copying = closes self.old.copying } }
     {
-        self.passages.close();
+        self.transfers.close();
     }
 
     /// Takes `node` away with its copies, where no transfer has the node as its receiver, and none
@@ -301,7 +301,7 @@ impl Copies {
         ensures { self.new ≡ record self.old { copying = ticks clock self.old.copying } }
     {
         self.holders.tick(clock);
-        self.passages.tick(clock);
+        self.transfers.tick(clock);
     }
 }
 
@@ -330,8 +330,8 @@ impl Copies {
         ensures err { OnErr result (self.new ≡ self.old) }
     {
         let to = Destination { receiver, segment };
-        let kept = self.passages.get(to).is_some();
-        self.passages.send(alloc, to, provider, chunk)?;
+        let kept = self.transfers.get(to).is_some();
+        self.transfers.send(alloc, to, provider, chunk)?;
         self.holders.drop_unless(kept, receiver, segment);
         Ok(())
     }
@@ -393,11 +393,11 @@ impl Copies {
             receiver: node,
             segment,
         };
-        let marked = self.passages.mark(to, *key)?;
+        let marked = self.transfers.mark(to, *key)?;
         match self.holders.put(alloc, node, segment, *key, put) {
             Ok(stamped) => Ok(Before { stamped, marked }),
             Err(NoMemory) => {
-                self.passages.restore(to, key, marked);
+                self.transfers.restore(to, key, marked);
                 Err(NoMemory)
             }
         }
@@ -423,7 +423,7 @@ impl Copies {
             segment,
         };
         self.holders.restore(alloc, node, segment, key, stamped);
-        self.passages.restore(to, key, marked);
+        self.transfers.restore(to, key, marked);
     }
 
     /// Erases a key at the nodes listed from a place on that are there.
@@ -450,14 +450,14 @@ impl Copies {
             receiver: node,
             segment,
         };
-        let marked = self.passages.mark(to, *key)?;
+        let marked = self.transfers.mark(to, *key)?;
         match self.erase_from(owners, from + 1, segment, key) {
             Ok(()) => {
                 self.holders.remove(node, segment, key);
                 Ok(())
             }
             Err(NoMemory) => {
-                self.passages.restore(to, key, marked);
+                self.transfers.restore(to, key, marked);
                 Err(NoMemory)
             }
         }

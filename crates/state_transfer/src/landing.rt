@@ -13,8 +13,8 @@ ghost use Rattle.state_transfer.specs.Slots.{Holdings};
 
 use crate::destination::Destination;
 use crate::holders::Holders;
-use crate::passage::Passage;
-use crate::passages::Passages;
+use crate::transfer::Transfer;
+use crate::transfers::Transfers;
 use grid_base::{Key, NoMemory, Stamped, StampedEntry};
 use std::alloc::Global;
 
@@ -31,19 +31,19 @@ pub(crate) fn land_flying(
     holders: &mut Holders,
     alloc: Global,
     to: Destination,
-    passages: &Passages,
+    transfers: &Transfers,
 ) -> Result<(), NoMemory>
-    requires { is_sound holders.old.nodes holders.old.clock to (map.get passages.now to) ≡ true }
-    ensures ok { OnOk result (holders.new ≡ record holders.old { cells = landed to.receiver to.segment (map.get passages.now to) holders.old.cells }) }
+    requires { is_sound holders.old.nodes holders.old.clock to (map.get transfers.now to) ≡ true }
+    ensures ok { OnOk result (holders.new ≡ record holders.old { cells = landed to.receiver to.segment (map.get transfers.now to) holders.old.cells }) }
     ensures err { OnErr result (holders.new ≡ holders.old) }
 {
-    let Some(passage) = passages.get(to) else {
+    let Some(transfer) = transfers.get(to) else {
         return Ok(());
     };
-    let Some(entries) = passage.flying() else {
+    let Some(entries) = transfer.flying() else {
         return Ok(());
     };
-    land_all(holders, alloc, to, passage, entries)
+    land_all(holders, alloc, to, transfer, entries)
 }
 
 /// Puts the entries at the receiver, without the touched keys. The only failure is that memory runs
@@ -52,16 +52,16 @@ fn land_all(
     holders: &mut Holders,
     alloc: Global,
     to: Destination,
-    passage: &Passage,
+    transfer: &Transfer,
     entries: &[StampedEntry],
 ) -> Result<(), NoMemory>
     requires there { set.contains holders.old.nodes to.receiver ≡ true }
     requires lasting { are_lasting holders.old.clock entries.now ≡ true }
-    ensures ok { OnOk result (holders.new ≡ record holders.old { cells = landed_in to.receiver to.segment passage.now.touched entries.now holders.old.cells }) }
+    ensures ok { OnOk result (holders.new ≡ record holders.old { cells = landed_in to.receiver to.segment transfer.now.touched entries.now holders.old.cells }) }
     ensures err { OnErr result (holders.new ≡ holders.old) }
 {
     let mut steps: Vec<Step> = Vec::new(alloc);
-    match put_all(holders, alloc, to, passage, entries, &mut steps) {
+    match put_all(holders, alloc, to, transfer, entries, &mut steps) {
         Ok(()) => Ok(()),
         Err(NoMemory) => {
             take_back(holders, alloc, to, steps);
@@ -76,7 +76,7 @@ fn put_all(
     holders: &mut Holders,
     alloc: Global,
     to: Destination,
-    passage: &Passage,
+    transfer: &Transfer,
     entries: &[StampedEntry],
     steps: &mut Vec<Step>,
 ) -> Result<(), NoMemory>
@@ -85,13 +85,13 @@ fn put_all(
     requires none { steps.old.items ≡ [] }
     ensures nodes { holders.new.nodes ≡ holders.old.nodes }
     ensures clock { holders.new.clock ≡ holders.old.clock }
-    ensures ok { OnOk result (holders.new.cells ≡ landed_in to.receiver to.segment passage.now.touched entries.now holders.old.cells) }
+    ensures ok { OnOk result (holders.new.cells ≡ landed_in to.receiver to.segment transfer.now.touched entries.now holders.old.cells) }
     ensures steps { TakesBack to.receiver to.segment holders.old.clock (reverse steps.new.items) holders.new.cells holders.old.cells }
 {
     let mut left = entries.len();
     while left > 0 {
         let entry = &entries[left - 1];
-        if !passage.touches(&entry.key) {
+        if !transfer.touches(&entry.key) {
             put_one(holders, alloc, to, entry, steps)?;
         }
         left -= 1;

@@ -8,9 +8,9 @@ mod destination;
 pub mod faithful;
 mod holders;
 mod landing;
-mod passage;
-mod passages;
 mod slots;
+mod transfer;
+mod transfers;
 
 pub use change::Change;
 pub use copies::Copies;

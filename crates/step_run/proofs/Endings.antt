@@ -10,7 +10,7 @@ use Rattle.cluster_model.specs.Step.{changed}
 use Rattle.step_run.specs.StepRuns.{Progress, by_event, repeated, with_event_at}
 
 -- the run has stopped, or the command has no event
-abbrev HasEnded : Command → Progress → Type 0
+abbrev pub HasEnded : Command → Progress → Type 0
 HasEnded command run = (is_some run.stopped ≡ true) ⊎ (chosen run.state command ≡ None)
 
 -- an event that passes no limit finds room for it

@@ -1,12 +1,15 @@
 -- Each event of a run may happen where it stands.
-use Rattle.std.proofs.Common.{◌≡◌, ℕ, zero, suc, ◌+◌, Bool, true, false, ◌&&◌, List, [], ◌∷◌, ◌++◌, Option, None, Some, is_some, refl, sym, ap, subst, ◌∙◌, if◌then◌else◌, inl, inr}
+use Rattle.std.proofs.Common.{◌≡◌, ℕ, zero, suc, ◌+◌, ◌≤◌, nat_le, arith, length, length-append, Bool, true, false, ◌&&◌, List, [], ◌∷◌, ◌++◌, Option, None, Some, is_some, refl, sym, ap, subst, ◌∙◌, if◌then◌else◌, inl, inr}
+use Rattle.std.proofs.lemmas.Bool.{and_from, le-leb}
 use Rattle.std.specs.Prelude.{Result, Ok, Err, OnOk}
-use Rattle.grid_base.specs.declared.limits.TheConstants.{LAST_CALL}
+use Rattle.grid_base.specs.declared.limits.TheConstants.{LAST_CALL, MOST_EVENTS, MOST_WEIGHT}
 use Rattle.grid_event.specs.declared.command.Command.{Command}
 use Rattle.grid_event.specs.declared.command.Command.TheVariants.{Advance, Drive}
 use Rattle.grid_event.specs.declared.config.Config.{Config}
 use Rattle.grid_event.specs.declared.event.Event.{Event}
+use Rattle.grid_event.specs.Weights.{total_weight}
 use Rattle.grid_event.specs.Histories.{History, blank, passes_limit, with_event}
+use Rattle.grid_event.proofs.TotalWeights.{room-passes_limit, total_weight-push}
 use Rattle.grid_script.specs.Scripts.{Steps}
 use Rattle.grid_script.specs.declared.order.Order.{Order}
 use Rattle.grid_script.specs.declared.order.Order.TheVariants.{One, Settle, Finish}
@@ -15,6 +18,7 @@ use Rattle.cluster_model.specs.Commands.{chosen}
 use Rattle.cluster_model.specs.State.{State, start}
 use Rattle.cluster_model.specs.Step.{allowed, changed, is_run, is_run_of, runs, state}
 use Rattle.cluster_model.proofs.ChosenSteps.{MayHappen, chosen_may}
+use Rattle.cluster_laws.specs.Laws.{fits_journal}
 use Rattle.step_run.specs.Outcomes.{IsFront, Leaves, LeavesRun, running}
 use Rattle.step_run.specs.StepRuns.{ENOUGH, Progress, after_lines, all_done, all_finished, begin, by_event, done, ended, going, noted, order_done, repeated, run_of, with_event_at}
 use Rattle.step_run.specs.declared.run_fault.RunFault.{RunFault}
@@ -40,32 +44,45 @@ runs-front : (st : State) (es more : List Event) → runs st (es ++ more) ≡ tr
 runs-front st [] more r = refl
 runs-front st (first ∷ es) more r = joined (allowed st first) (runs (changed st first) (es ++ more)) (runs (changed st first) es) r (λ rest. runs-front (changed st first) es more rest)
 
--- what a run keeps: its events may happen where they stand, and they make its cluster
-record IsKept (config : Config) (run : Progress) : Type 0 where
+-- what a run keeps: its events may happen where they stand, they make its cluster, and a journal holds them
+pub record IsKept (config : Config) (run : Progress) : Type 0 where
   pub settings : run.history.config ≡ Some config
   pub steps : runs (start config) run.history.events ≡ true
   pub cluster : state (start config) run.history.events ≡ run.state
+  pub fits : fits_journal run.history.events ≡ true
+
+-- an event that passes no limit fits behind the others
+fits_more : (h : History) (event : Event) → passes_limit h event ≡ false → fits_journal (h.events ++ event ∷ []) ≡ true
+fits_more h event e =
+    let room = room-passes_limit h event (sym e) in
+    let fits = room.fits in
+    let one = room.one_more in
+    let shorter : length (h.events ++ event ∷ []) ≤ MOST_EVENTS = omega (arith, length-append h.events (event ∷ [])) in
+    let lighter : total_weight (h.events ++ event ∷ []) ≤ MOST_WEIGHT = omega (arith, total_weight-push h.events event) in
+    and_from (nat_le (length (h.events ++ event ∷ [])) MOST_EVENTS) (nat_le (total_weight (h.events ++ event ∷ [])) MOST_WEIGHT)
+    (le-leb (length (h.events ++ event ∷ [])) MOST_EVENTS shorter) (le-leb (total_weight (h.events ++ event ∷ [])) MOST_WEIGHT lighter)
 
 abbrev Keeps : Config → (Progress → Progress) → Type 0
 Keeps config next = (run : Progress) → IsKept config run → IsKept config (next run)
 
-with_event_at-keeps : (config : Config) (line : ℕ) (event : Event) (run : Progress) → allowed run.state event ≡ true → IsKept config run → IsKept config (with_event_at line event run)
+pub with_event_at-keeps : (config : Config) (line : ℕ) (event : Event) (run : Progress) → allowed run.state event ≡ true → IsKept config run → IsKept config (with_event_at line event run)
 unfolding with_event_at
-with_event_at-keeps config line event run may kept =
-    elim (passes_limit run.history event) as (λ (full : Bool).
-    IsKept config (if full then record run { stopped = Some line } else record run { state = changed run.state event; history = with_event run.history event })) [
-      | true ↦ record { settings = kept.settings; steps = kept.steps; cluster = kept.cluster }
-      | false ↦ record {
-        settings = kept.settings;
-        steps =
-            runs-push (start config) run.history.events event kept.steps (subst (λ (st : State). allowed st event ≡ true) (sym kept.cluster) may);
-        cluster = state-push (start config) run.history.events event ∙ ap (λ (st : State). changed st event) kept.cluster;
-      }
-    ]
+with_event_at-keeps config line event run may kept = by_room (passes_limit run.history event) refl
+  where
+    by_room : (full : Bool) → passes_limit run.history event ≡ full →
+        IsKept config (if full then record run { stopped = Some line } else record run { state = changed run.state event; history = with_event run.history event })
+    by_room true e = record { settings = kept.settings; steps = kept.steps; cluster = kept.cluster; fits = kept.fits }
+    by_room false e = record {
+      settings = kept.settings;
+      steps =
+          runs-push (start config) run.history.events event kept.steps (subst (λ (st : State). allowed st event ≡ true) (sym kept.cluster) may);
+      cluster = state-push (start config) run.history.events event ∙ ap (λ (st : State). changed st event) kept.cluster;
+      fits = fits_more run.history event e;
+    }
 
 noted-keeps : (config : Config) (line : ℕ) → Keeps config (noted line)
 unfolding noted
-noted-keeps config line run kept = record { settings = kept.settings; steps = kept.steps; cluster = kept.cluster }
+noted-keeps config line run kept = record { settings = kept.settings; steps = kept.steps; cluster = kept.cluster; fits = kept.fits }
 
 going-keeps : (config : Config) (next : Progress → Progress) → Keeps config next → Keeps config (going next)
 going-keeps config next keeps run kept =
@@ -80,12 +97,27 @@ by_event-keeps config line rest none r n (Some event) run may kept =
 same-keeps : (config : Config) → Keeps config (λ same. same)
 same-keeps config run kept = kept
 
-repeated-keeps : (config : Config) (times line : ℕ) (command : Command) → Keeps config (repeated times line command)
+-- what each event of a command keeps, its repetition keeps
+pub repeated_by : (P : Progress → Type 0) (line : ℕ) (command : Command) →
+    ((run : Progress) (event : Event) → chosen run.state command ≡ Some event → P run → P (with_event_at line event run)) →
+    (times : ℕ) (run : Progress) → P run → P (repeated times line command run)
 unfolding repeated
-repeated-keeps config zero line command run kept = kept
-repeated-keeps config (suc times) line command run kept =
-    by_event-keeps config line (repeated times line command) (λ same. same) (repeated-keeps config times line command) (same-keeps config)
-    (chosen run.state command) run (chosen_may run.state command) kept
+repeated_by P line command each zero run h = h
+repeated_by P line command each (suc times) run h = by_choice (chosen run.state command) refl (repeated_by P line command each times)
+  where
+    by_choice : (found : Option Event) → chosen run.state command ≡ found → ((next : Progress) → P next → P (repeated times line command next)) → P (by_event line (repeated times line command) (λ same. same) found run)
+    by_choice None e rest = h
+    by_choice (Some event) e rest =
+        let next = with_event_at line event run in
+        let there : P next = each run event e h in
+        elim (is_some next.stopped) as (λ (stopped : Bool). P (if stopped then next else repeated times line command next)) [
+          | true ↦ there
+          | false ↦ rest next there
+        ]
+
+repeated-keeps : (config : Config) (times line : ℕ) (command : Command) → Keeps config (repeated times line command)
+repeated-keeps config times line command run kept =
+    repeated_by (IsKept config) line command (λ run event e kept. with_event_at-keeps config line event run (chosen_may run.state command event e) kept) times run kept
 
 all_done-keeps : (config : Config) (line : ℕ) (command : Command) → Keeps config (all_done line command)
 all_done-keeps config line command run kept =
@@ -98,7 +130,7 @@ order_done-keeps config line (One command) run kept =
 order_done-keeps config line Settle run kept = all_done-keeps config line Advance run kept
 order_done-keeps config line (Finish call) run kept = all_done-keeps config line (Drive call) run kept
 
-after_lines-keeps : (config : Config) (lines : List StepLine) → Keeps config (after_lines lines)
+pub after_lines-keeps : (config : Config) (lines : List StepLine) → Keeps config (after_lines lines)
 after_lines-keeps config [] run kept = kept
 after_lines-keeps config (line ∷ lines) run kept =
     after_lines-keeps config lines (going (done line) run) (going-keeps config (done line) (order_done-keeps config line.line line.order) run kept)
@@ -115,11 +147,15 @@ ended-keeps config run kept =
     going-keeps config (repeated ENOUGH 0 Advance) (repeated-keeps config ENOUGH 0 Advance) (all_finished LAST_CALL 1 run)
     (all_finished-keeps config LAST_CALL 1 run kept)
 
-run_of-kept : (script : Steps) → IsKept script.config (run_of script)
+-- a new run keeps it
+pub begin_kept : (config : Config) → IsKept config (begin config)
+begin_kept config = record { settings = refl; steps = refl; cluster = refl; fits = refl }
+
+pub run_of-kept : (script : Steps) → IsKept script.config (run_of script)
 unfolding run_of
 run_of-kept script =
     ended-keeps script.config (after_lines script.lines (begin script.config))
-    (after_lines-keeps script.config script.lines (begin script.config) (record { settings = refl; steps = refl; cluster = refl }))
+    (after_lines-keeps script.config script.lines (begin script.config) (begin_kept script.config))
 
 -- the journal of a stepped run is a run of the cluster
 pub run_of-is_run : (script : Steps) → is_run (run_of script).history ≡ true

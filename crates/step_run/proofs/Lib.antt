@@ -2,4 +2,5 @@ pub mod Fronts
 pub mod Resuming
 pub mod Kept
 pub mod Endings
+pub mod Finishing
 pub mod RightRuns

@@ -7,8 +7,8 @@ use Rattle.grid_event.specs.declared.config.Config.{Config}
 use Rattle.grid_script.specs.Scripts.{Steps}
 use Rattle.cluster_model.specs.State.{start}
 use Rattle.cluster_model.specs.Step.{is_run, is_run_of, runs}
-use Rattle.cluster_laws.proofs.AnswerRuns.{calls_right}
-use Rattle.cluster_laws.proofs.CauseRuns.{all_caused}
+use Rattle.cluster_laws.proofs.answers.AnswerRuns.{calls_right}
+use Rattle.cluster_laws.proofs.causes.CauseRuns.{all_caused}
 use Rattle.step_run.specs.Outcomes.{LeavesRun}
 use Rattle.step_run.specs.RightRuns.{IsRightAndCaused}
 use Rattle.step_run.specs.StepRuns.{run_of}

@@ -1,4 +1,5 @@
 pub mod StepRuns
 pub mod Outcomes
+pub mod Finished
 pub mod Laws
 pub mod RightRuns

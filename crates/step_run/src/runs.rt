@@ -5,6 +5,7 @@ ghost use Rattle.grid_event.specs.Configs.{is_config};
 ghost use Rattle.grid_event.specs.Histories.{blank};
 ghost use Rattle.cluster_model.specs.Step.{is_run};
 ghost use Rattle.step_run.specs.StepRuns.{run_of};
+ghost use Rattle.step_run.specs.Finished.{IsFinished};
 ghost use Rattle.step_run.specs.Outcomes.{LeavesRun};
 ghost use Rattle.step_run.specs.RightRuns.{IsRightAndCaused};
 
@@ -16,7 +17,8 @@ use grid_script::StepScript;
 use std::alloc::Global;
 
 /// Does every line of the script in turn, then finishes each call, and then settles the topology.
-/// With Ok the journal is that of the script's stepped run. Full comes exactly where that run stops
+/// With Ok the journal is that of the script's stepped run, in which each call that was made has an
+/// answer and the topology is settled. Full comes exactly where that run stops
 /// for a full journal, at its line, and the journal then holds it; after want of memory the journal
 /// is empty or holds a front of that run. Whatever comes, the journal is a run of the cluster, in
 /// which the answers of all calls are right and each outcome has its cause.
@@ -26,6 +28,7 @@ pub fn run_steps(alloc: Global, script: &StepScript, journal: &mut Journal) -> R
     ensures settings { OnOk result (journal.new.history.config ≡ Some script.now.config) }
     ensures run { is_run journal.new.history ≡ true }
     ensures right { IsRightAndCaused journal.new.history }
+    ensures finished { OnOk result (IsFinished journal.new.history) }
 {
     do_script(alloc, script, journal)
 }

@@ -30,7 +30,7 @@ pub fn happen(
         Err(PushFault::Full) => return Err(RunFault::Full { line }),
         Err(PushFault::NoMemory) => return Err(RunFault::NoMemory),
     }
-    if core.take(alloc, &event).is_err() {
+    if core.step(alloc, &event).is_err() {
         return Err(RunFault::NoMemory);
     }
     if journal.push(event).is_err() {

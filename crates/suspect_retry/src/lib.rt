@@ -5,7 +5,7 @@
 
 mod rounds;
 
-pub use rounds::Rounds;
+pub use rounds::{Rounds, closed_at};
 
 #[cfg(test)]
 mod tests;

@@ -88,7 +88,7 @@ impl Rounds {
 }
 
 /// The topology at which a unit was refused or lost by an installation, and 0 for any other unit.
-fn closed_at(state: UnitState) -> u32
+pub fn closed_at(state: UnitState) -> u32
     ensures { result ≡ closed_at state }
 {
     match state {

@@ -20,6 +20,7 @@ use Rattle.topology_phase.proofs.OwnerLists.{range_push}
 use Rattle.topology_coord.specs.Coordination.{first_installed}
 use Rattle.topology_coord.proofs.Living.{live_more}
 
+-- a range of one number more has that number at its end
 row_more : (n : ℕ) → range_with_len 0 (n + 1) ≡ range_with_len 0 n ++ n ∷ []
 row_more n = ap (range_with_len 0) (add-one n) ∙ range_push 0 n ∙ ap (λ k. range_with_len 0 n ++ k ∷ []) (omega arith)
 

@@ -1,3 +1,4 @@
+pub mod Aiming
 pub mod MemberLaws
 pub mod NextLaws
 pub mod Slots

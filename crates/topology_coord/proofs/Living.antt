@@ -32,6 +32,7 @@ pub some_kept : (p : ℕ → Bool) (xs : List ℕ) → is_ownerless (filter p xs
 some_kept p [] = refl
 some_kept p (x ∷ xs) = elim (p x) as (λ b. is_ownerless (cond b (x ∷ filter p xs) (filter p xs)) ≡ not (b || list_any p xs)) [ true ↦ refl | false ↦ some_kept p xs ]
 
+-- three tests in another order
 regrouped : (a b r : Bool) → ((not a && b) && r) ≡ ((b && r) && not a)
 regrouped true true true = refl
 regrouped true true false = refl

@@ -15,25 +15,31 @@ use Rattle.topology_coord.proofs.Living.{among_keys, live_left, live_more}
 pub among-live : (c : Coordination) (n : ℕ) → among n (live_nodes c) ≡ lives c n
 among-live c n = among_keys c.installed n
 
+-- what is chosen by a test or was there is there
 there_or : {A : Type 0} (b : Bool) (v : A) (o : Option A) → is_some (cond b (Some v) o) ≡ (b || is_some o)
 there_or true v o = refl
 there_or false v o = refl
 
+-- what was there is there, unless a test takes it away
 there_but : {A : Type 0} (b : Bool) (o : Option A) → is_some (cond b None o) ≡ (not b && is_some o)
 there_but true o = refl
 there_but false o = refl
 
+-- the number of what is chosen by a test, or else of what was there
 number_or : (b : Bool) (id : ℕ) (o : Option ℕ) → unwrap_or (cond b (Some id) o) 0 ≡ cond b id (unwrap_or o 0)
 number_or true id o = refl
 number_or false id o = refl
 
+-- the number of what was there, and 0 where a test takes it away
 number_but : (b : Bool) (o : Option ℕ) → unwrap_or (cond b None o) 0 ≡ cond b 0 (unwrap_or o 0)
 number_but true o = refl
 number_but false o = refl
 
+-- what is found after a node's number is put there
 put_at : (c : Coordination) (q id n : ℕ) → map_of.get (map_of.insert c.installed q id) n ≡ cond (n == q) (Some id) (map_of.get c.installed n)
 put_at c q id n = map_of.get-insert nat_cmp_total c.installed q id n ∙ ap (λ b. cond b (Some id) (map_of.get c.installed n)) (unsigned_tied n q)
 
+-- what is found after a node's number is removed
 gone_at : (c : Coordination) (q n : ℕ) → map_of.get (map_of.remove c.installed q) n ≡ cond (n == q) None (map_of.get c.installed n)
 gone_at c q n = map_of.get-remove nat_cmp_total c.installed q n ∙ ap (λ b. cond b None (map_of.get c.installed n)) (unsigned_tied n q)
 
@@ -89,6 +95,7 @@ some-departs c q h =
     let may = and_parts (lives c q) _ h in
     live_left c.installed q may.0 (ltb-true 1 (length (live_nodes c)) may.1)
 
+-- the topology of a number that is the newest's by a test is the newest, and else that of the number before
 by_number : (b : Bool) (id : ℕ) (i : ℕ) (newest before : Topology) → id ≡ newest.id → cond (cond b id i == newest.id) newest before ≡ cond b newest (cond (i == newest.id) newest before)
 by_number true id i newest before e = ap (λ b. cond b newest before) (nat_eq_equiv.congr id newest.id newest.id (ap (λ k. k == newest.id) e ∙ nat_eq_equiv.refl newest.id) ∙ nat_eq_equiv.refl newest.id)
 by_number false id i newest before e = refl

@@ -1,7 +1,6 @@
 -- The next topology is a neighbour of the newest.
 use Rattle.std.proofs.Common.{◌≡◌, ℕ, ◌+◌, ◌<◌, ◌==◌, Bool, true, false, cond, not, ◌||◌, if◌then◌else◌, List, length, Some, None, unwrap_or, refl, sym, ap, subst, ◌∙◌, inl, inr}
 use Rattle.std.proofs.lemmas.Bool.{and_parts, and_from, eq-eqb, or_left, or_right}
-use Rattle.hash_factory.proofs.Made.{length-created, owned_created}
 use Rattle.topology_phase.specs.Following.{begins_rebalance, cancelled, completed, in_phase, mended, neighbours, repaired}
 use Rattle.topology_phase.specs.Laws.{Follows, IsOwned}
 use Rattle.topology_phase.specs.Owners.{among, owners_at}
@@ -13,7 +12,8 @@ use Rattle.topology_phase.proofs.Mending.{length-tabulated}
 use Rattle.topology_phase.proofs.NeighbourLaws as neighbour_laws
 use Rattle.topology_phase.proofs.SameTopologies.{same_hash_decides, same_topology_itself}
 use Rattle.topology_coord.specs.Coordination.{Coordination, all_installed, live_nodes, lives, segment_count}
-use Rattle.topology_coord.specs.Following.{aim, following, may_follow, needs_repair, rebalanced, unrepaired}
+use Rattle.topology_coord.specs.Following.{aimed, following, may_follow, needs_repair, rebalanced, unrepaired}
+use Rattle.topology_coord.proofs.Aiming.{length-aimed, owned_aimed}
 use Rattle.topology_coord.proofs.MemberLaws.{among-live}
 
 -- what is known of the next topology: every live node has the newest; it is a neighbour, with as many segments; and after the
@@ -24,6 +24,7 @@ pub record IsNext (copied : Bool) (c : Coordination) (next : Topology) : Type 0 
   pub as_long : length next.current ≡ length c.newest.current
   pub after_copying : c.newest.phase ≡ ReadOld → next.phase ≡ ReadAll → copied ≡ true
 
+-- equal topologies, of equal options
 same_some : (a b : Topology) → Some a ≡ Some b → a ≡ b
 same_some a b e = ap (λ o. unwrap_or o a) e
 
@@ -34,6 +35,7 @@ record IsStep (copied : Bool) (c : Coordination) (next : Topology) : Type 0 wher
   after_copying : c.newest.phase ≡ ReadOld → next.phase ≡ ReadAll → copied ≡ true
 
 module _ (copied : Bool) (c : Coordination) (some : 0 < length (live_nodes c)) (owners : 0 < c.owners) (owned : IsOwned c.newest) where
+  -- the live nodes
   abbrev live : List ℕ
   live = live_nodes c
 
@@ -50,17 +52,19 @@ module _ (copied : Bool) (c : Coordination) (some : 0 < length (live_nodes c)) (
     as_long : length next.current ≡ length c.newest.current
     after_copying : phase ≡ ReadOld → next.phase ≡ ReadAll → copied ≡ true
 
-  rebalanced_begins : begins_rebalance c.newest (rebalanced c) live ≡ true
-  unfolding aim
-  rebalanced_begins =
+  -- a rebalance towards the aim may follow where no departed node is named
+  rebalanced_begins : needs_repair c ≡ false → begins_rebalance c.newest (rebalanced c) live ≡ true
+  rebalanced_begins none =
       and_from ((c.newest.id + 1) == (c.newest.id + 1)) _ (eq-eqb (c.newest.id + 1) (c.newest.id + 1) refl)
       (and_from (same_hash c.newest.current c.newest.current) _ ((same_hash_decides c.newest.current c.newest.current).1 refl)
-      (and_from (length (aim c) == length c.newest.current) _ (eq-eqb (length (aim c)) (length c.newest.current) (length-created live (segment_count c) c.owners)) (owned_created live (segment_count c) c.owners some owners)))
+      (and_from (length (aimed c) == length c.newest.current) _ (eq-eqb (length (aimed c)) (length c.newest.current) (length-aimed c)) (owned_aimed c some owners none)))
 
-  begun_way : (b : Bool) (next : Topology) → (if b then None else Some (rebalanced c)) ≡ Some next → Way next NoRebalance
-  begun_way true next e = absurd (cc)
-  begun_way false next e = subst (λ t. Way t NoRebalance) (same_some (rebalanced c) next e) (record { near = rebalanced_begins; as_long = refl; after_copying = λ p. absurd (cc) })
+  -- from the phase without rebalance the next topology begins one
+  begun_way : needs_repair c ≡ false → (b : Bool) (next : Topology) → (if b then None else Some (rebalanced c)) ≡ Some next → Way next NoRebalance
+  begun_way none true next e = absurd (cc)
+  begun_way none false next e = subst (λ t. Way t NoRebalance) (same_some (rebalanced c) next e) (record { near = rebalanced_begins none; as_long = refl; after_copying = λ p. absurd (cc) })
 
+  -- from the first phase the next topology is the cancellation or the next phase
   moved_way : (next : Topology) → (b k : Bool) → k ≡ copied → (if b then Some (cancelled c.newest) else if k then Some (in_phase c.newest ReadAll) else None) ≡ Some next → Way next ReadOld
   moved_way next true k is e = subst (λ t. Way t ReadOld) (same_some (cancelled c.newest) next e) (record {
     near = or_right (same_topology (cancelled c.newest) (in_phase c.newest ReadAll)) _ (same_topology_itself (cancelled c.newest));
@@ -74,9 +78,11 @@ module _ (copied : Bool) (c : Coordination) (some : 0 < length (live_nodes c)) (
   })
   moved_way next false false is e = absurd (cc)
 
+  -- from the second phase it is the third
   all_way : (next : Topology) → Some (in_phase c.newest ReadNew) ≡ Some next → Way next ReadAll
   all_way next e = subst (λ t. Way t ReadAll) (same_some (in_phase c.newest ReadNew) next e) (record { near = same_topology_itself (in_phase c.newest ReadNew); as_long = refl; after_copying = λ p. absurd (cc) })
 
+  -- from the third phase it is the end
   new_way : c.newest.phase ≡ ReadNew → (next : Topology) → Some (completed c.newest) ≡ Some next → Way next ReadNew
   new_way phase next e = subst (λ t. Way t ReadNew) (same_some (completed c.newest) next e) (record {
     near = same_topology_itself (completed c.newest);
@@ -84,20 +90,22 @@ module _ (copied : Bool) (c : Coordination) (some : 0 < length (live_nodes c)) (
     after_copying = λ p. absurd (cc);
   })
 
-  unrepaired_way : (next : Topology) → unrepaired copied c ≡ Some next → Way next c.newest.phase
+  -- so without repair the way to the next topology is one that its phase allows
+  unrepaired_way : needs_repair c ≡ false → (next : Topology) → unrepaired copied c ≡ Some next → Way next c.newest.phase
   unfolding unrepaired
-  unrepaired_way next e =
+  unrepaired_way none next e =
       elim c.newest.phase as (λ phase. c.newest.phase ≡ phase → by_phase phase
-      (if same_hash c.newest.current (aim c) then None else Some (rebalanced c))
-      (if not (same_hash c.newest.pending (aim c)) then Some (cancelled c.newest) else if copied then Some (in_phase c.newest ReadAll) else None)
+      (if same_hash c.newest.current (aimed c) then None else Some (rebalanced c))
+      (if not (same_hash c.newest.pending (aimed c)) then Some (cancelled c.newest) else if copied then Some (in_phase c.newest ReadAll) else None)
       (Some (in_phase c.newest ReadNew))
       (Some (completed c.newest)) ≡ Some next → Way next phase) [
-        | NoRebalance ↦ λ _ e. begun_way (same_hash c.newest.current (aim c)) next e
-        | ReadOld ↦ λ _ e. moved_way next (not (same_hash c.newest.pending (aim c))) copied refl e
+        | NoRebalance ↦ λ _ e. begun_way none (same_hash c.newest.current (aimed c)) next e
+        | ReadOld ↦ λ _ e. moved_way next (not (same_hash c.newest.pending (aimed c))) copied refl e
         | ReadAll ↦ λ _ e. all_way next e
         | ReadNew ↦ λ phase e. new_way phase next e
       ] refl e
 
+  -- a repair is a neighbour, and has as many segments
   repair_step : (next : Topology) → needs_repair c ≡ true → Some (repaired c.newest live) ≡ Some next → IsStep copied c next
   unfolding neighbours repaired
   repair_step next gone e = subst (λ t. IsStep copied c t) (same_some (repaired c.newest live) next e) (record {
@@ -106,20 +114,23 @@ module _ (copied : Bool) (c : Coordination) (some : 0 < length (live_nodes c)) (
     after_copying = λ p q. absurd (cc);
   })
 
+  -- so is a next topology without repair
   plain_step : (next : Topology) → needs_repair c ≡ false → unrepaired copied c ≡ Some next → IsStep copied c next
   unfolding neighbours
   plain_step next none e =
-      let way = unrepaired_way next e in
+      let way = unrepaired_way none next e in
       record {
         near = ap (λ b. cond b (same_topology next (repaired c.newest live)) (in_turn next c.newest.phase)) none ∙ way.near;
         as_long = way.as_long;
         after_copying = way.after_copying;
       }
 
+  -- so is either of them
   next_step : (next : Topology) (b : Bool) → needs_repair c ≡ b → (if b then Some (repaired c.newest live) else unrepaired copied c) ≡ Some next → IsStep copied c next
   next_step next true gone e = repair_step next gone e
   next_step next false none e = plain_step next none e
 
+  -- and where a topology may be next, every live node has installed the newest
   next_from : (next : Topology) (m : Bool) → may_follow c ≡ m → (if m then if needs_repair c then Some (repaired c.newest live) else unrepaired copied c else None) ≡ Some next → IsNext copied c next
   next_from next true may e =
       let step = next_step next (needs_repair c) refl e in

@@ -52,13 +52,16 @@ get_from n (id ∷ ids) (suc k) q e =
 pub get_slots : (ids : List ℕ) (q : ℕ) → map_of.get (slots_from 0 ids) q ≡ stored (get_or ids q 0)
 get_slots ids q = get_from 0 ids q q (omega arith)
 
+-- a number above 0 isn't 0
 not_zero : (id : ℕ) → (suc id == 0) ≡ false
 not_zero id = ne_eqb (suc id) 0 (omega arith)
 
+-- the number that a place stores is read back, and 0 where it stores none
 id_stored : (id : ℕ) → unwrap_or (stored id) 0 ≡ id
 id_stored zero = refl
 id_stored (suc id) = ap (λ b. unwrap_or (cond b None (Some (suc id))) 0) (not_zero id)
 
+-- a place stores a number exactly where it isn't 0
 some_stored : (id : ℕ) → is_some (stored id) ≡ not (id == 0)
 some_stored zero = refl
 some_stored (suc id) = ap (λ b. is_some (cond b None (Some (suc id)))) (not_zero id) ∙ ap not (sym (not_zero id))
@@ -97,6 +100,7 @@ stored_at ids k id q h = elim (cases_eq q k) [
   | inr differ ↦ ap stored (get_or-set_other ids k q id 0 differ) ∙ ap (λ b. cond b (stored id) (stored (get_or ids q 0))) (sym (apart q k differ))
 ]
 
+-- a number from 1 on is stored
 stored_some : (id : ℕ) → 1 ≤ id → stored id ≡ Some id
 stored_some zero h = absurd (omega arith)
 stored_some (suc id) h = ap (λ b. cond b None (Some (suc id))) (not_zero id)
@@ -120,6 +124,7 @@ abbrev placed : ℕ → List ℕ → List (ℕ × ℕ)
 placed n [] = []
 placed n (id ∷ ids) = cond (id == 0) (placed (suc n) ids) ((n, id) ∷ placed (suc n) ids)
 
+-- the order of a lesser number chooses the first
 ranked_below : (n m : ℕ) (x y z : List (ℕ × ℕ)) → n < m → by_order (nat_cmp n m) x y z ≡ x
 ranked_below n m x y z h = ap (λ r. by_order r x y z) (sym (nat_cmp_is n m Less h))
 
@@ -132,6 +137,7 @@ put_before n v m (id ∷ ids) h =
       | false ↦ ranked_below n m ((n, v) ∷ (m, id) ∷ placed (suc m) ids) ((m, v) ∷ placed (suc m) ids) ((m, id) ∷ put nat_cmp n v (placed (suc m) ids)) h
     ]
 
+-- a list of length 0 is empty
 nothing_in : (es : List (ℕ × ℕ)) → length es ≡ 0 → es ≡ []
 nothing_in [] e = refl
 nothing_in (x ∷ es) e = absurd (omega arith)
@@ -160,6 +166,7 @@ kept_placed p n (id ∷ ids) h =
       | false ↦ λ e. ap (λ b. cond b (n ∷ others) others) e ∙ ap (λ ns. n ∷ ns) rest
     ] first
 
+-- 0 and a number are that number
 zero_plus : (k : ℕ) → 0 + k ≡ k
 zero_plus k = omega arith
 

@@ -8,15 +8,19 @@ use Rattle.std.specs.FinSet as set_of
 use Rattle.std.specs.FinSet.{FinSet}
 use Rattle.grid_base.specs.Nodes.{apart, alike}
 
+-- no number is below 0
 below_none : (q : ℕ) → nat_lt q 0 ≡ false
 below_none q = grind (arith, nat_tests)
 
+-- a number is below the next one
 below_next : (n : ℕ) → nat_lt n (n + 1) ≡ true
 below_next n = grind (arith, nat_tests)
 
+-- another number is below the next one exactly where it is below this one
 below_other : (q n : ℕ) → (q ≡ n → ⊥) → nat_lt q (n + 1) ≡ nat_lt q n
 below_other q n differ = grind (arith, nat_tests)
 
+-- no number is below itself
 below_itself : (n : ℕ) → nat_lt n n ≡ false
 below_itself n = grind (arith, nat_tests)
 

@@ -7,12 +7,14 @@ use Rattle.std.specs.Ordering.{nat_cmp}
 use Rattle.grid_base.specs.Nodes.{Nodes}
 use Rattle.hash_factory.specs.Formulas.{created}
 use Rattle.topology_phase.specs.declared.phase.Phase.TheVariants.{NoRebalance}
+use Rattle.topology_phase.specs.declared.aim.Aim.{Aim}
 use Rattle.topology_phase.specs.Topologies.{Topology, holders}
 
--- how many owners a segment is to have; the nodes that were ever members; the live ones, each with the number
+-- how many owners a segment is to have, and what a rebalance aims at; the nodes that were ever members; the live ones, each with the number
 -- of the topology that it has installed; the newest topology, and the one before it
 pub record Coordination : Type 0 where
   pub owners : ℕ
+  pub aim : Aim
   pub ever : Nodes
   pub installed : map_of.FinMap nat_cmp ℕ
   pub newest : Topology
@@ -27,10 +29,11 @@ first_topology nodes segments owners =
 abbrev pub first_installed : ℕ → map_of.FinMap nat_cmp ℕ
 first_installed nodes = map_of.from_entries (map (λ node. (node, 1)) (range_with_len 0 nodes))
 
--- the start of a cluster of so many nodes, segments and owners
-unfoldable pub first_coordination : ℕ → ℕ → ℕ → Coordination
-first_coordination nodes segments owners = record {
+-- the start of a cluster of so many nodes, segments and owners, with this aim
+unfoldable pub first_coordination : ℕ → ℕ → ℕ → Aim → Coordination
+first_coordination nodes segments owners aim = record {
   owners = owners;
+  aim = aim;
   ever = set_of.from_list (range_with_len 0 nodes);
   installed = first_installed nodes;
   newest = first_topology nodes segments owners;

@@ -2,6 +2,8 @@
 use Rattle.std.specs.Prelude.{ℕ, ◌+◌, ◌==◌, Bool, not, ◌&&◌, ◌||◌, if◌then◌else◌, Option, None, Some}
 use Rattle.grid_base.specs.declared.limits.TheConstants.{LAST_TOPOLOGY}
 use Rattle.hash_factory.specs.Formulas.{created}
+use Rattle.hash_factory.specs.Least.{least}
+use Rattle.topology_phase.specs.Aims.{by_aim}
 use Rattle.topology_phase.specs.Owners.{Hash, among, owners_at}
 use Rattle.topology_phase.specs.declared.phase.Phase.TheVariants.{NoRebalance, ReadOld, ReadAll, ReadNew}
 use Rattle.topology_phase.specs.Phases.{by_phase, same_phase}
@@ -9,9 +11,9 @@ use Rattle.topology_phase.specs.Topologies.{Topology, same_hash}
 use Rattle.topology_phase.specs.Following.{cancelled, completed, in_phase, names_departed, repaired}
 use Rattle.topology_coord.specs.Coordination.{Coordination, all_installed, live_nodes, lives, segment_count}
 
--- the hash that a rebalance leads to: that of the formula for the live nodes
-unfoldable pub aim : Coordination → Hash
-aim c = created (live_nodes c) (segment_count c) c.owners
+-- the hash that a rebalance leads to: the one that is created for the live nodes, or the one that balances them and moves least
+unfoldable pub aimed : Coordination → Hash
+aimed c = by_aim c.aim (created (live_nodes c) (segment_count c) c.owners) (least (live_nodes c) c.owners c.newest.current)
 
 -- a node is to receive a segment: it lives, and will own the segment without owning it yet, in the first phase of a rebalance
 abbrev pub receives : Coordination → ℕ → ℕ → Bool
@@ -21,7 +23,7 @@ receives c node segment =
 
 -- a rebalance towards the aim begins: the current hash stays
 abbrev pub rebalanced : Coordination → Topology
-rebalanced c = record { id = c.newest.id + 1; phase = ReadOld; current = c.newest.current; pending = aim c }
+rebalanced c = record { id = c.newest.id + 1; phase = ReadOld; current = c.newest.current; pending = aimed c }
 
 -- a topology may be next: every live node has installed the newest, and its number isn't the last
 abbrev pub may_follow : Coordination → Bool
@@ -37,8 +39,8 @@ needs_repair c =
 unfoldable pub unrepaired : Bool → Coordination → Option Topology
 unrepaired copied c =
     by_phase c.newest.phase
-    (if same_hash c.newest.current (aim c) then None else Some (rebalanced c))
-    (if not (same_hash c.newest.pending (aim c)) then Some (cancelled c.newest) else if copied then Some (in_phase c.newest ReadAll) else None)
+    (if same_hash c.newest.current (aimed c) then None else Some (rebalanced c))
+    (if not (same_hash c.newest.pending (aimed c)) then Some (cancelled c.newest) else if copied then Some (in_phase c.newest ReadAll) else None)
     (Some (in_phase c.newest ReadNew))
     (Some (completed c.newest))
 

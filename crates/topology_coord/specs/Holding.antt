@@ -8,6 +8,7 @@ use Rattle.topology_coord.specs.Coordination.{Coordination}
 abbrev pub coordination_of : Inside → Coordination
 coordination_of a = record {
   owners = a.owners;
+  aim = a.aim;
   ever = a.ever;
   installed = a.installed;
   newest = a.newest;

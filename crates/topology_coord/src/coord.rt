@@ -14,14 +14,15 @@ use hash_factory::create;
 use segment_hash::SegmentSet;
 use std::alloc::Global;
 use std::marker::Model;
-use topology_phase::{Members, Phase, Topology};
+use topology_phase::{Aim, Members, Phase, Topology};
 
-/// What a coordinator knows: how many owners a segment is to have, which nodes were ever members,
+/// What a coordinator knows: how many owners a segment is to have, what a rebalance aims at, which nodes were ever members,
 /// which live ones have installed which topology, and the two newest topologies. Some node is
 /// always live.
 #[derive(Debug, Drop)]
 pub struct Coord {
     owners: u8,
+    aim: Aim,
     ever: NodeSet,
     installed: Installed,
     newest: Topology,
@@ -49,14 +50,20 @@ impl Model for Coord {
 impl Coord {
     /// The start of a cluster of 1 to 16 nodes, 1 to 256 segments and 1 to 4 owners a segment. The
     /// only failure is that memory runs out.
-    pub fn new(alloc: Global, nodes: u8, segments: u16, owners: u8) -> Result<Coord, NoMemory>
+    pub fn new(
+        alloc: Global,
+        nodes: u8,
+        segments: u16,
+        owners: u8,
+        aim: Aim,
+    ) -> Result<Coord, NoMemory>
         requires some_node { 1 ≤ nodes }
         requires few_nodes { nodes ≤ 16 }
         requires some_segment { 1 ≤ segments }
         requires few_segments { segments ≤ 256 }
         requires some_owner { 1 ≤ owners }
         requires few_owners { owners ≤ 4 }
-        ensures { IfOk result (λ coord. coord ≡ first_coordination nodes segments owners) }
+        ensures { IfOk result (λ coord. coord ≡ first_coordination nodes segments owners aim) }
     {
         let ever = first_nodes(nodes);
         let hash = create(alloc, &ever, segments, owners)?;
@@ -64,6 +71,7 @@ impl Coord {
         let before = newest.copy(alloc)?;
         Ok(Coord {
             owners,
+            aim,
             ever,
             installed: Installed::first(nodes),
             newest,
@@ -215,6 +223,13 @@ impl Coord {
         self.owners
     }
 
+    /// What a rebalance aims at.
+    pub fn aim(&self) -> Aim
+        ensures { result ≡ self.now.aim }
+    {
+        self.aim
+    }
+
     /// An equal coordinator. The only failure is that memory runs out.
     pub fn copy(&self, alloc: Global) -> Result<Coord, NoMemory>
         ensures { IfOk result (λ copy. copy ≡ self.now) }
@@ -223,6 +238,7 @@ impl Coord {
         let before = self.before.copy(alloc)?;
         Ok(Coord {
             owners: self.owners,
+            aim: self.aim,
             ever: self.ever,
             installed: self.installed.copy(),
             newest,

@@ -4,14 +4,14 @@ ghost use Rattle.std.specs.Prelude.{◌≡◌, ℕ, ◌<◌, ◌≤◌, true, le
 ghost use Rattle.topology_phase.specs.Owners.{members, owners_at};
 ghost use Rattle.topology_phase.specs.Phases.{same_phase};
 ghost use Rattle.topology_coord.specs.Coordination.{live_nodes};
-ghost use Rattle.topology_coord.specs.Following.{aim, following, unrepaired};
+ghost use Rattle.topology_coord.specs.Following.{aimed, following, unrepaired};
 
 use crate::coord::Coord;
 use grid_base::NoMemory;
 use grid_base::limits::LAST_TOPOLOGY;
-use hash_factory::create;
+use hash_factory::{create, rebalance_least};
 use std::alloc::Global;
-use topology_phase::{Hash, Phase, Topology};
+use topology_phase::{Aim, Hash, Phase, Topology};
 
 impl Coord {
     /// The next topology, where `copied` says that all receivers have their copies. None comes
@@ -64,7 +64,7 @@ impl Coord {
         requires in_phase { self.now.newest.phase ≡ Phase.NoRebalance }
         ensures { IfOk result (λ next. next ≡ unrepaired true self.now) }
     {
-        let aim = self.aim(alloc)?;
+        let aim = self.aimed(alloc)?;
         if self.newest().current().is_same(&aim) {
             return Ok(None);
         }
@@ -80,7 +80,7 @@ impl Coord {
         requires in_phase { self.now.newest.phase ≡ Phase.ReadOld }
         ensures { IfOk result (λ next. next ≡ unrepaired copied self.now) }
     {
-        let aim = self.aim(alloc)?;
+        let aim = self.aimed(alloc)?;
         if !self.newest().leads_to(&aim) {
             let next = self.newest().cancelled(alloc)?;
             return Ok(Some(next));
@@ -93,14 +93,22 @@ impl Coord {
     }
 
     /// The hash that a rebalance leads to.
-    #[tactic(auto, unfolding(crate::specs::Following::aim))]
-    fn aim(&self, alloc: Global) -> Result<Hash, NoMemory>
-        ensures aim { IfOk result (λ hash. hash ≡ aim self.now) }
+    #[tactic(auto, unfolding(crate::specs::Following::aimed))]
+    fn aimed(&self, alloc: Global) -> Result<Hash, NoMemory>
+        ensures aim { IfOk result (λ hash. hash ≡ aimed self.now) }
         ensures as_long { IfOk result (λ hash. length hash ≡ length self.now.newest.current) }
         ensures few { IfOk result (λ hash. (s : ℕ) → length (owners_at hash s) ≤ 4) }
     {
         let live = self.live();
-        let hash = create(alloc, &live, self.newest().segments(), self.owners())?;
-        Ok(hash)
+        match self.aim() {
+            Aim::Create => {
+                let hash = create(alloc, &live, self.newest().segments(), self.owners())?;
+                Ok(hash)
+            }
+            Aim::Least => {
+                let least = rebalance_least(alloc, self.newest().current(), &live, self.owners())?;
+                Ok(least.hash)
+            }
+        }
     }
 }

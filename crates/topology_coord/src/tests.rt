@@ -3,7 +3,7 @@ use grid_base::{Duplicate, NoMemory, NodeId, SegmentId, TopologyId};
 use segment_hash::SegmentSet;
 use std::alloc::Global;
 use std::test::Fail;
-use topology_phase::{Hash, Members, Owners, Phase, Topology};
+use topology_phase::{Aim, Hash, Members, Owners, Phase, Topology};
 
 /// A topology by its number, its phase, its owners and those that they are to be: a digit a node,
 /// and a comma behind each segment.
@@ -146,7 +146,7 @@ fn segments_move_after_a_join(rt: HostRuntime) -> Result<(), Fail> {
         Step::Install(4),
         Step::Hold(true),
     ];
-    let mut coord = Coord::new(rt.alloc(), 3, 4, 2)?;
+    let mut coord = Coord::new(rt.alloc(), 3, 4, 2, Aim::Create)?;
     assert!(rt; do_steps(rt.alloc(), &mut coord, &steps)?.is_none());
     Ok(())
 }
@@ -160,7 +160,7 @@ fn a_departure_is_repaired(rt: HostRuntime) -> Result<(), Fail> {
         Step::Depart(0, true, false, true),
         Step::Announce(false, (3, Phase::ReadOld, b"1,1,2,", b"1,1,2,")),
     ];
-    let mut coord = Coord::new(rt.alloc(), 2, 3, 1)?;
+    let mut coord = Coord::new(rt.alloc(), 2, 3, 1, Aim::Create)?;
     assert!(rt; do_steps(rt.alloc(), &mut coord, &steps)?.is_none());
     Ok(())
 }
@@ -183,7 +183,7 @@ fn a_later_departure_loses_what_only_it_holds(rt: HostRuntime) -> Result<(), Fai
         Step::Install(2),
         Step::Announce(false, (7, Phase::ReadOld, b"1,1,2,", b"1,2,1,")),
     ];
-    let mut coord = Coord::new(rt.alloc(), 2, 3, 1)?;
+    let mut coord = Coord::new(rt.alloc(), 2, 3, 1, Aim::Create)?;
     assert!(rt; do_steps(rt.alloc(), &mut coord, &steps)?.is_none());
     Ok(())
 }
@@ -197,7 +197,7 @@ fn the_last_owner_loses_its_segment(rt: HostRuntime) -> Result<(), Fail> {
         Step::Install(1),
         Step::Hold(true),
     ];
-    let mut coord = Coord::new(rt.alloc(), 3, 1, 2)?;
+    let mut coord = Coord::new(rt.alloc(), 3, 1, 2, Aim::Create)?;
     assert!(rt; do_steps(rt.alloc(), &mut coord, &steps)?.is_none());
     Ok(())
 }
@@ -213,7 +213,7 @@ fn a_further_join_cancels(rt: HostRuntime) -> Result<(), Fail> {
         Step::Install(3),
         Step::Announce(false, (4, Phase::ReadOld, b"0,0,", b"01,12,")),
     ];
-    let mut coord = Coord::new(rt.alloc(), 1, 2, 2)?;
+    let mut coord = Coord::new(rt.alloc(), 1, 2, 2, Aim::Create)?;
     assert!(rt; do_steps(rt.alloc(), &mut coord, &steps)?.is_none());
     Ok(())
 }
@@ -229,7 +229,7 @@ fn a_repair_may_spare_the_cancellation(rt: HostRuntime) -> Result<(), Fail> {
         Step::Install(1),
         Step::Announce(true, (4, Phase::ReadAll, b"0,0,", b"0,0,")),
     ];
-    let mut coord = Coord::new(rt.alloc(), 1, 2, 2)?;
+    let mut coord = Coord::new(rt.alloc(), 1, 2, 2, Aim::Create)?;
     assert!(rt; do_steps(rt.alloc(), &mut coord, &steps)?.is_none());
     Ok(())
 }
@@ -249,7 +249,7 @@ fn nodes_read_what_they_installed(rt: HostRuntime) -> Result<(), Fail> {
         Step::Join(1),
         Step::Announce(false, (2, Phase::ReadOld, b"0,0,", b"01,10,")),
     ];
-    let mut coord = Coord::new(rt.alloc(), 1, 2, 2)?;
+    let mut coord = Coord::new(rt.alloc(), 1, 2, 2, Aim::Create)?;
     assert!(rt; do_steps(rt.alloc(), &mut coord, &steps)?.is_none());
     assert!(rt; reads_by_the_first(rt.alloc(), &coord)?);
     assert!(rt; coord.receives(NodeId::new(1), SegmentId::new(0)));

@@ -43,18 +43,22 @@ any_of p (x ∷ xs) n passes h = elim (or_cases (nat_eq x n) (among n xs) h) [
 pub none_of : (p : ℕ → Bool) (xs : List ℕ) (n : ℕ) → list_any p xs ≡ false → p n ≡ true → among n xs ≡ true → ⊥
 none_of p xs n none passes h = both_ways (list_any p xs) none (any_of p xs n passes h)
 
+-- who is among the first list is among the first of two that has something
 in_first : (n : ℕ) (xs ys : List ℕ) → among n xs ≡ true → among n (first_of_two xs ys) ≡ true
 in_first n [] ys h = absurd (cc)
 in_first n (x ∷ xs) ys h = h
 
+-- who is among the first of two that has something is among the first, or the first is empty and it is among the second
 from_first : (n : ℕ) (xs ys : List ℕ) → among n (first_of_two xs ys) ≡ true → (among n xs ≡ true) ⊎ ((xs ≡ []) × (among n ys ≡ true))
 from_first n [] ys h = inr (refl, h)
 from_first n (x ∷ xs) ys h = inl h
 
+-- where the second list has something, the first of two that has something does
 some_first : (xs ys : List ℕ) → HasSome ys → HasSome (first_of_two xs ys)
 some_first [] ys h = h
 some_first (x ∷ xs) ys h = (x, among_head x xs)
 
+-- where nothing is left of a list by a test, none of it passes
 none_pruned : (p : ℕ → Bool) (xs : List ℕ) → filter p xs ≡ [] → list_any p xs ≡ false
 none_pruned p [] e = refl
 none_pruned p (x ∷ xs) e =
@@ -120,6 +124,7 @@ tabulated_more f n = map-range_with_len_more f 0 n n (omega arith)
 pub pushed_more : (f : ℕ → List ℕ) (n : ℕ) (hash next : Hash) (row : List ℕ) → hash ≡ tabulated n f → next ≡ hash ++ row ∷ [] → row ≡ f n → next ≡ tabulated (n + 1) f
 pushed_more f n hash next row so_far pushed is = pushed ∙ (λ i. so_far i ++ is i ∷ []) ∙ sym (tabulated_more f n)
 
+-- a tabulated hash has so many segments
 pub length-tabulated : (segments : ℕ) (f : ℕ → List ℕ) → length (tabulated segments f) ≡ segments
 length-tabulated segments f = length-map-range_with_len f 0 segments
 
@@ -131,9 +136,11 @@ owned_within hash s n h = elim (cases_lt s (length hash)) [
 ]
 
 module _ (live : List ℕ) (mine other : Hash) where
+  -- a segment with an owner in the mended hash is one of the hash
   mended_within : (s n : ℕ) → among n (owners_at (mended_hash live mine other) s) ≡ true → s < length mine
   mended_within s n h = omega (arith, owned_within (mended_hash live mine other) s n h, length-tabulated (length mine) (λ s. mended live s (owners_at mine s) (owners_at other s)))
 
+  -- the owners of a segment in the mended hash are the mended ones
   mended_at : (s : ℕ) → s < length mine → owners_at (mended_hash live mine other) s ≡ mended live s (owners_at mine s) (owners_at other s)
   mended_at s h = owners_at-tabulated (length mine) (λ s. mended live s (owners_at mine s) (owners_at other s)) s h
 

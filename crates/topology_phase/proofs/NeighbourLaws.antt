@@ -80,15 +80,18 @@ other_phase : {A : Type 0} → (ReadOld ≡ NoRebalance) ⊎ A → (ReadAll ≡ 
 other_phase (inl e) = absurd (cc)
 other_phase (inr a) = inr a
 
+-- what holds in the second phase is said of the third
 in_rebalance_all : {A : Type 0} → (ReadAll ≡ NoRebalance) ⊎ A → (ReadNew ≡ NoRebalance) ⊎ A
 in_rebalance_all (inl e) = absurd (cc)
 in_rebalance_all (inr a) = inr a
 
+-- what is said of the third phase holds
 in_read_new : {A : Type 0} → (ReadNew ≡ NoRebalance) ⊎ A → A
 in_read_new (inl e) = absurd (cc)
 in_read_new (inr a) = a
 
 module _ (live : List ℕ) where
+  -- a node is among the live ones
   abbrev lives : ℕ → Bool
   lives n = among n live
 
@@ -215,6 +218,7 @@ module _ (live : List ℕ) where
     repaired_receives ReadAll e = absurd (cc)
     repaired_receives ReadNew e = absurd (cc)
 
+  -- a repair is a neighbour as runs need it
   repaired_follows : (t : Topology) → 0 < length live → IsOwned t → Follows t (repaired t live) lives
   unfolding repaired
   repaired_follows t some owned = record {
@@ -394,6 +398,7 @@ module _ (live : List ℕ) where
   abbrev in_order : Topology → Topology → Bool
   in_order a b = by_phase a.phase (begins_rebalance a b live) (same_topology b (in_phase a ReadAll) || same_topology b (cancelled a)) (same_topology b (in_phase a ReadNew)) (same_topology b (completed a))
 
+  -- a topology that follows in order is safe beside the one before it
   in_order_safe : (id : ℕ) (phase : Phase) (c p : Hash) (b : Topology) → in_order (record { id = id; phase = phase; current = c; pending = p }) b ≡ true
       → IsSafe (record { id = id; phase = phase; current = c; pending = p }) b lives
   in_order_safe id NoRebalance c p b h =
@@ -407,6 +412,7 @@ module _ (live : List ℕ) where
   in_order_safe id ReadAll c p b h = subst (λ (t : Topology). IsSafe (record { id = id; phase = ReadAll; current = c; pending = p }) t lives) (sym (same_topology_is b _ h)) (read_new_safe id c p)
   in_order_safe id ReadNew c p b h = subst (λ (t : Topology). IsSafe (record { id = id; phase = ReadNew; current = c; pending = p }) t lives) (sym (same_topology_is b _ h)) (completed_safe id c p)
 
+  -- and it is a neighbour as runs need it, where no departed node is named
   in_order_follows : (id : ℕ) (phase : Phase) (c p : Hash) (b : Topology) → names_departed live c ≡ false → names_departed live p ≡ false
       → in_order (record { id = id; phase = phase; current = c; pending = p }) b ≡ true → IsOwned (record { id = id; phase = phase; current = c; pending = p })
       → Follows (record { id = id; phase = phase; current = c; pending = p }) b lives

@@ -12,6 +12,7 @@ use Rattle.topology_phase.proofs.Mending.{length-tabulated, owners_at-tabulated}
 use Rattle.topology_phase.proofs.TopologyParts.{none_at}
 use Rattle.topology_phase.proofs.SameTopologies.{same_phase_is}
 
+-- the first of two short lists that has something is short
 few_first : (xs ys : List ℕ) → length xs ≤ 4 → length ys ≤ 4 → length (first_of_two xs ys) ≤ 4
 few_first [] ys few few_more = few_more
 few_first (x ∷ xs) ys few few_more = few

@@ -20,6 +20,7 @@ among-append n xs ys = list_any-append (λ m. m == n) xs ys
 pub among-filter : (n : ℕ) (p : ℕ → Bool) (xs : List ℕ) → among n (filter p xs) ≡ (p n && among n xs)
 among-filter n p xs = any-filter_same (λ m. m == n) p (p n) (λ k e. ap p (eqb-true k n e)) xs
 
+-- what is so, or else something, is either
 kept_or : (a b : Bool) → (a || (not a && b)) ≡ (a || b)
 kept_or true b = refl
 kept_or false b = refl

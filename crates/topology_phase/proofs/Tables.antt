@@ -8,9 +8,11 @@ use Rattle.topology_phase.proofs.Mending.{some_of, any_of}
 use Rattle.topology_phase.proofs.NeighbourLaws.{joined_left, joined_right, joined_cases}
 
 module _ (id : ℕ) (c p : Hash) where
+  -- the topology of a phase
   abbrev by : Phase → Topology
   by phase = record { id = id; phase = phase; current = c; pending = p }
 
+  -- who reads by a phase holds by it
   read_held : (phase : Phase) (n s : ℕ) → among n (read_owners (by phase) s) ≡ true → among n (holders (by phase) s) ≡ true
   unfolding read_owners holders
   read_held NoRebalance n s h = h
@@ -18,6 +20,7 @@ module _ (id : ℕ) (c p : Hash) where
   read_held ReadAll n s h = h
   read_held ReadNew n s h = joined_right n (owners_at c s) (owners_at p s) h
 
+  -- who holds by a phase is written by it
   held_written : (phase : Phase) (n s : ℕ) → among n (holders (by phase) s) ≡ true → among n (write_owners (by phase) s) ≡ true
   unfolding write_owners holders
   held_written NoRebalance n s h = h
@@ -25,6 +28,7 @@ module _ (id : ℕ) (c p : Hash) where
   held_written ReadAll n s h = h
   held_written ReadNew n s h = h
 
+  -- who is written by a phase is named
   written_named : (phase : Phase) (n s : ℕ) → among n (write_owners (by phase) s) ≡ true → Names (by phase) n s
   unfolding write_owners
   written_named NoRebalance n s h = inl h

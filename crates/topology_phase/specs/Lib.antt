@@ -2,6 +2,7 @@ pub mod Owners
 pub mod InlineMembers
 pub mod InlineOwners
 pub mod InlineTopology
+pub mod Aims
 pub mod Phases
 pub mod Topologies
 pub mod Following

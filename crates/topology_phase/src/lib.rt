@@ -2,6 +2,7 @@
 //! writes and holds a segment in each, and which topologies may follow one another.
 #![tactic(auto)]
 
+mod aim;
 mod following;
 mod hash;
 mod members;
@@ -11,6 +12,7 @@ mod phase;
 mod safety;
 mod topology;
 
+pub use aim::Aim;
 pub use following::neighbours;
 pub use hash::Hash;
 pub use members::Members;

@@ -16,7 +16,7 @@ pub fn first_cut(alloc: Global, words: &[Text], script: &[u8]) -> Result<Option<
     let mut front = Bytes::new(alloc);
     let mut length = 0u32;
     let mut line = 1u32;
-    if !is_refused(alloc, words, b"", line)? {
+    if !refuses(alloc, words, b"", line)? {
         return Ok(Some(length));
     }
     for byte in script {
@@ -26,9 +26,9 @@ pub fn first_cut(alloc: Global, words: &[Text], script: &[u8]) -> Result<Option<
             line = line.wrapping_add(1);
         }
         let told = if *byte == b'\n' && line > SETTINGS {
-            is_done(alloc, words, front.as_slice())?
+            runs(alloc, words, front.as_slice())?
         } else {
-            is_refused(alloc, words, front.as_slice(), line)?
+            refuses(alloc, words, front.as_slice(), line)?
         };
         if !told {
             return Ok(Some(length));
@@ -38,13 +38,13 @@ pub fn first_cut(alloc: Global, words: &[Text], script: &[u8]) -> Result<Option<
 }
 
 /// Whether the script is run.
-fn is_done(alloc: Global, words: &[Text], script: &[u8]) -> Result<bool, NoMemory> {
+fn runs(alloc: Global, words: &[Text], script: &[u8]) -> Result<bool, NoMemory> {
     let end = run(alloc, words, script, 0, 0)?;
     Ok(end.status == Status::Done)
 }
 
 /// Whether the script is refused, as the line is none.
-fn is_refused(alloc: Global, words: &[Text], script: &[u8], line: u32) -> Result<bool, NoMemory> {
+fn refuses(alloc: Global, words: &[Text], script: &[u8], line: u32) -> Result<bool, NoMemory> {
     let end = run(alloc, words, script, 0, 0)?;
     if end.status != Status::ScriptRefused {
         return Ok(false);

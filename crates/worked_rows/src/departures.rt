@@ -49,7 +49,7 @@ fn is_answer(event: Option<&Event>) -> bool {
 fn are_told(alloc: Global, journal: &Journal, place: u32, made: &InvokeEvent) -> Result<bool> {
     for number in 0..MOST_NODES {
         let mut core = core_after(alloc, journal, place)?;
-        if !is_told(alloc, &mut core, made, NodeId::new(number))? {
+        if !ends_right(alloc, &mut core, made, NodeId::new(number))? {
             return Ok(false);
         }
     }
@@ -69,7 +69,7 @@ pub fn core_after(alloc: Global, journal: &Journal, place: u32) -> Result<Core> 
 }
 
 /// Whether the call's end is right where the node departs now. It is where it can't depart.
-fn is_told(alloc: Global, core: &mut Core, made: &InvokeEvent, node: NodeId) -> Result<bool> {
+fn ends_right(alloc: Global, core: &mut Core, made: &InvokeEvent, node: NodeId) -> Result<bool> {
     let Some(event) = core.choose(alloc, &Command::Depart { node })? else {
         return Ok(true);
     };

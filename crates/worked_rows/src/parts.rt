@@ -35,7 +35,7 @@ pub fn told_part<R: Files + AllocGlobal>(rt: &R, line: &str) -> Result<String> {
     let script = fields.next().context("a part without a script")?;
     let moment = moment_of(line)?;
     let script = script_bytes(rt, script)?;
-    Ok(if is_so(alloc, script.as_slice(), moment)? {
+    Ok(if books(alloc, script.as_slice(), moment)? {
         format!(in alloc; "{name} same")?
     } else {
         format!(in alloc; "{name} differs")?
@@ -60,7 +60,7 @@ fn moment_of(line: &str) -> Result<Moment> {
 
 /// Whether that is booked at the moment of a run of the script: where each end of a unit was applied
 /// as it is, and where it was handed the piece that was made of the unit.
-fn is_so(alloc: Global, script: &[u8], moment: Moment) -> Result<bool> {
+fn books(alloc: Global, script: &[u8], moment: Moment) -> Result<bool> {
     let mut words = Vec::new(alloc);
     words.push(Text::new(alloc, b"step")?)?;
     let end = run(alloc, words.as_slice(), script, 0, 0)?;

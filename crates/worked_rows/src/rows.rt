@@ -37,7 +37,7 @@ pub fn told_row<R: Files + AllocGlobal>(rt: &R, line: &str) -> Result<String> {
         return Ok(format!(in alloc; "{name} ends with status {ended} in place of {status}")?);
     }
     let happened = end.journal.len();
-    if !is_number(events, happened)? {
+    if !spells(events, happened)? {
         return Ok(format!(in alloc; "{name} has {happened} events in place of {events}")?);
     }
     let file = format!(in alloc; "{name}.{kind}")?;
@@ -56,7 +56,7 @@ pub fn script_bytes<R: Files + AllocGlobal>(rt: &R, name: &str) -> Result<Vec<u8
 }
 
 /// Whether a field spells the number, or says nothing.
-fn is_number(field: &str, number: u32) -> Result<bool> {
+fn spells(field: &str, number: u32) -> Result<bool> {
     if field == "-" {
         return Ok(true);
     }

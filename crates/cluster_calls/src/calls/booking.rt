@@ -7,8 +7,10 @@ ghost use Rattle.pipeline_eval.specs.Pipes.{pipe};
 ghost use Rattle.pipeline_split.specs.Halves.{remote_of};
 ghost use Rattle.pipeline_split.specs.Pieces as pieces;
 ghost use Rattle.cluster_model.specs.State as states;
-ghost use Rattle.cluster_model.specs.State.{with_loss};
-ghost use Rattle.cluster_calls.specs.Calling.{all_complete_in, any_open, call_in, evidence_in, is_one};
+ghost use Rattle.cluster_model.specs.State.{call_of, with_loss};
+ghost use Rattle.cluster_model.specs.Calls.{all_complete, has_open};
+ghost use Rattle.cluster_model.specs.Answers.{evidence_of};
+ghost use Rattle.cluster_calls.specs.Calling.{is_one};
 ghost use Rattle.cluster_calls.specs.Parts.{booking_in, is_parted, part_in};
 
 use crate::calls::Calls;
@@ -18,10 +20,10 @@ use pipeline_split::Piece;
 use std::alloc::Global;
 
 impl Calls {
-    /// Lends the piece that is booked for the segment of the call: that of what its units read that
-    /// ended, and of what lost ones read too where the guarantee keeps it. None comes exactly where
-    /// the call isn't a reduction that isn't answered, or where there is no such unit. It takes no
-    /// memory.
+    /// Borrows the piece booked for a segment of a reduction that isn't answered. It is the piece of
+    /// what units of the call read that ended there, and of what lost units read where the guarantee
+    /// keeps it. None comes exactly where the call is no such reduction, or has no such unit. It takes
+    /// no memory.
     pub fn part(&self, number: CallId, segment: SegmentId) -> Option<&Piece>
         ensures { option_copied result ≡ part_in self.now number segment }
     {
@@ -42,9 +44,9 @@ impl Calls {
     /// failure is that memory runs out; pieces that don't fit, as none of a typed pipeline, are
     /// want of memory.
     pub fn answer_of(&self, alloc: Global, number: CallId) -> Result<Answer, NoMemory>
-        requires parted { is_one is_parted (call_in self.now number) ≡ true }
-        requires whole { (all_complete_in self.now number || not (any_open self.now.units number)) ≡ true }
-        ensures { IfOk result (λ answer. (call : states.Call) → call_in self.now number ≡ Some call → answer ≡ pipe call.request.pipeline (evidence_in self.now number call)) }
+        requires parted { is_one is_parted (call_of self.now number) ≡ true }
+        requires whole { (all_complete self.now number || not (has_open self.now number)) ≡ true }
+        ensures { IfOk result (λ answer. (call : states.Call) → call_of self.now number ≡ Some call → answer ≡ pipe call.request.pipeline (evidence_of self.now number call)) }
     {
         let Some(row) = self.table.get(number) else {
             return Err(NoMemory);
@@ -81,7 +83,7 @@ impl Calls {
         piece: Piece,
     ) -> Result<Option<Piece>, NoMemory>
         requires place { place < length self.now.units }
-        requires piece { (u : states.Unit) (call : states.Call) → slice_get self.now.units place ≡ Some u → call_in self.now u.work.call ≡ Some call → piece ≡ pieces.piece (remote_of call.request.pipeline) u.work.entries }
+        requires piece { (u : states.Unit) (call : states.Call) → slice_get self.now.units place ≡ Some u → call_of self.now u.work.call ≡ Some call → piece ≡ pieces.piece (remote_of call.request.pipeline) u.work.entries }
         ensures { IfOk result (λ made. (u : states.Unit) → slice_get self.now.units place ≡ Some u → made ≡ booking_in self.now (record u { work = ended u.work })) }
     {
         let unit = &self.units[place];

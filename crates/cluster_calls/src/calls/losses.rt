@@ -1,16 +1,17 @@
 //! Units and segments are lost.
 
-ghost use Rattle.std.specs.Prelude.{◌≡◌, ◌<◌, ℕ, List, map, true, length, slice_get, slice_set, Some, IfOk, OnErr, OnOk};
+ghost use Rattle.std.specs.Prelude.{◌≡◌, ◌<◌, ◌-◌, ℕ, List, map, true, length, slice_get, slice_set, Some, IfOk, OnErr, OnOk};
 ghost use Rattle.std.specs.FinSet as set_of;
 ghost use Rattle.topology_phase.specs.Owners.{among};
 ghost use Rattle.cluster_model.specs.State as states;
 ghost use Rattle.cluster_model.specs.State.{is_open_unit, with_loss};
-ghost use Rattle.cluster_model.specs.Topologies.{each_call, notes_losses};
+ghost use Rattle.cluster_model.specs.Topologies.{each_call, notes_losses, with_departure};
 ghost use Rattle.cluster_calls.specs.Parts.{booking_ceased, booking_departed, booking_in};
-ghost use Rattle.cluster_calls.specs.Calling.{is_one, with_departure, with_installation};
+ghost use Rattle.cluster_calls.specs.Calling.{ceases_at, is_one, with_installation};
+ghost use Rattle.cluster_calls.specs.Listed.{AreListed, AreThere, booking_of, is_open_at, leaves};
 
-use crate::calls::Calls;
-use grid_base::{NoMemory, NodeId, TopologyId};
+use crate::calls::{Calls, place_of};
+use grid_base::{NoMemory, NodeId, SegmentId, TopologyId, UnitId, Units};
 use pipeline_split::Piece;
 use segment_hash::SegmentSet;
 use std::alloc::Global;
@@ -22,8 +23,11 @@ impl Calls {
         ensures ok { OnOk result (self.new ≡ record self.old { units = map (with_departure node) self.old.units }) }
         ensures err { OnErr result (self.new ≡ self.old) }
     {
-        let made = self.departures(alloc, node)?;
-        self.lose_each(node, made);
+        // The proof asks for what the type keeps, which a read of a field gives.
+        let _segments = self.segments;
+        let units = self.open_at(alloc, node, &all_segments())?;
+        let made = self.departures(alloc, node, units.as_slice())?;
+        self.lose_each(node, units.as_slice(), made);
         self.move_on();
         Ok(())
     }
@@ -41,8 +45,9 @@ impl Calls {
         ensures ok { OnOk result (self.new ≡ record self.old { units = map (with_installation node segments.now id) self.old.units }) }
         ensures err { OnErr result (self.new ≡ self.old) }
     {
-        let made = self.ceasings(alloc, node, segments, id)?;
-        self.cease_each(node, segments, id, made);
+        let units = self.open_at(alloc, node, segments)?;
+        let made = self.ceasings(alloc, node, segments, id, units.as_slice())?;
+        self.cease_each(node, segments, id, units.as_slice(), made);
         self.move_on();
         Ok(())
     }
@@ -55,14 +60,29 @@ impl Calls {
         self.table.note(lost);
     }
 
-    /// By the places of the units, what is to be booked where the node departs. The only failure is
+    /// The numbers of the open units at the node on these segments, ascending. The only failure is
     /// that memory runs out.
-    fn departures(&self, alloc: Global, node: NodeId) -> Result<Vec<Option<Piece>>, NoMemory>
-        ensures { IfOk result (λ made. made.items ≡ map (booking_departed self.now node) self.now.units) }
+    fn open_at(&self, alloc: Global, node: NodeId, segments: &SegmentSet) -> Result<Units, NoMemory>
+        ensures { IfOk result (λ units. AreListed (is_open_at node segments.now) self.now.units units.list) }
     {
-        let count = self.units.as_slice().len();
-        let mut made = Vec::with_capacity(alloc, count)?;
-        for place in 0..count {
+        let units = self.listeners.lost(alloc, node, segments)?;
+        Ok(units)
+    }
+
+    /// By these units, what is to be booked where the node departs. The only failure is that memory
+    /// runs out.
+    fn departures(
+        &self,
+        alloc: Global,
+        node: NodeId,
+        units: &[UnitId],
+    ) -> Result<Vec<Option<Piece>>, NoMemory>
+        requires { AreThere self.now.units units.now }
+        ensures { IfOk result (λ made. made.items ≡ map (λ number. booking_of (booking_departed self.now node) (slice_get self.now.units (number - 1))) units.now) }
+    {
+        let mut made = Vec::with_capacity(alloc, units.len())?;
+        for unit in units {
+            let place = place_of(*unit);
             made.push(self.departure(alloc, place, node)?)?;
         }
         Ok(made)
@@ -89,20 +109,22 @@ impl Calls {
         self.loss(alloc, place, None)
     }
 
-    /// By the places of the units, what is to be booked where the node installs the topology `id`,
-    /// by which it ceases to read these segments. The only failure is that memory runs out.
+    /// By these units, what is to be booked where the node installs the topology `id`, by which it
+    /// ceases to read these segments. The only failure is that memory runs out.
     fn ceasings(
         &self,
         alloc: Global,
         node: NodeId,
         segments: &SegmentSet,
         id: TopologyId,
+        units: &[UnitId],
     ) -> Result<Vec<Option<Piece>>, NoMemory>
-        ensures { IfOk result (λ made. made.items ≡ map (booking_ceased self.now node segments.now id) self.now.units) }
+        requires { AreThere self.now.units units.now }
+        ensures { IfOk result (λ made. made.items ≡ map (λ number. booking_of (booking_ceased self.now node segments.now id) (slice_get self.now.units (number - 1))) units.now) }
     {
-        let count = self.units.as_slice().len();
-        let mut made = Vec::with_capacity(alloc, count)?;
-        for place in 0..count {
+        let mut made = Vec::with_capacity(alloc, units.len())?;
+        for unit in units {
+            let place = place_of(*unit);
             made.push(self.ceasing(alloc, place, node, segments, id)?)?;
         }
         Ok(made)
@@ -134,32 +156,41 @@ impl Calls {
         self.loss(alloc, place, Some(id))
     }
 
-    /// The open units at the node, which departs, are lost, and by their places this is booked.
-    fn lose_each(&mut self, node: NodeId, mut made: Vec<Option<Piece>>)
-        requires { made.items ≡ map (booking_departed self.old node) self.old.units }
+    /// The open units at the node, which departs, are among these: they are lost, and by unit this is
+    /// booked.
+    fn lose_each(&mut self, node: NodeId, units: &[UnitId], mut made: Vec<Option<Piece>>)
+        requires listed { AreListed (leaves node) self.old.units units.now }
+        requires made { made.items ≡ map (λ number. booking_of (booking_departed self.old node) (slice_get self.old.units (number - 1))) units.now }
         ensures { self.new ≡ record self.old { units = map (with_departure node) self.old.units } }
     {
-        let count = self.units.as_slice().len();
-        for place in 0..count {
-            let part = made[place].take();
+        // The proof asks for what the type keeps, which a read of a field gives.
+        let _segments = self.segments;
+        for index in 0..units.len() {
+            let part = made[index].take();
+            let place = place_of(units[index]);
             self.lose_one(place, node, part);
         }
     }
 
-    /// The running units at the node on these segments are lost, and by their places this is booked.
+    /// The running units at the node on these segments are among these: they are lost, and by unit
+    /// this is booked.
     fn cease_each(
         &mut self,
         node: NodeId,
         segments: &SegmentSet,
         id: TopologyId,
+        units: &[UnitId],
         mut made: Vec<Option<Piece>>,
     )
-        requires { made.items ≡ map (booking_ceased self.old node segments.now id) self.old.units }
+        requires listed { AreListed (ceases_at node segments.now) self.old.units units.now }
+        requires made { made.items ≡ map (λ number. booking_of (booking_ceased self.old node segments.now id) (slice_get self.old.units (number - 1))) units.now }
         ensures { self.new ≡ record self.old { units = map (with_installation node segments.now id) self.old.units } }
     {
-        let count = self.units.as_slice().len();
-        for place in 0..count {
-            let part = made[place].take();
+        // The proof asks for what the type keeps, which a read of a field gives.
+        let _segments = self.segments;
+        for index in 0..units.len() {
+            let part = made[index].take();
+            let place = place_of(units[index]);
             self.cease_one(place, node, segments, id, part);
         }
     }
@@ -215,8 +246,20 @@ impl Calls {
         ensures { (u : states.Unit) → slice_get self.old.units place ≡ Some u → self.new ≡ record self.old { units = slice_set self.old.units place (with_loss at u) } }
     {
         let unit = &mut self.units[place];
-        let (call, segment) = (unit.call(), unit.segment());
+        let (number, call, segment) = (unit.id(), unit.call(), unit.segment());
         unit.mark_lost(at);
         self.table.close(call, segment, part);
+        self.listeners.end(number);
     }
+}
+
+/// All segments that there can be.
+fn all_segments() -> SegmentSet
+    ensures { (segment : ℕ) → segment < 256 → set_of.contains result segment ≡ true }
+{
+    let mut segments = SegmentSet::new();
+    for number in 0..256 {
+        segments.add(SegmentId::new(number));
+    }
+    segments
 }

@@ -3,9 +3,11 @@
 ghost use Rattle.std.specs.Prelude.{◌≡◌, ◌+◌, ◌++◌, true, false, map, length, nat_lt, None, Some, is_some, IfOk, OnErr, OnOk};
 ghost use Rattle.std.specs.List.{range_with_len};
 ghost use Rattle.grid_event.specs.declared.call_events.Ask as asks_of;
-ghost use Rattle.cluster_model.specs.Calls.{granted};
+ghost use Rattle.cluster_model.specs.Calls.{granted, has_open, incomplete, new_call, unit_made};
 ghost use Rattle.cluster_model.specs.State as states;
-ghost use Rattle.cluster_calls.specs.Calling.{any_open, call_in, changes_call, incomplete_in, is_one, new_call, puts_call, round_of, unit_made};
+ghost use Rattle.cluster_model.specs.State.{call_of};
+ghost use Rattle.cluster_calls.specs.Calling.{changes_call, is_one, puts_call, round_of};
+ghost use Rattle.cluster_calls.specs.Listed.{are_new, with_asked, without_asked};
 
 use crate::call::Call;
 use crate::calls::Calls;
@@ -15,6 +17,7 @@ use crate::tally::Tally;
 use crate::unit::Unit;
 use grid_base::{CallId, NoMemory, NodeId, TopologyId};
 use grid_event::{Ask, Outcome, Request};
+use loss_listener::Listeners;
 use std::alloc::Global;
 
 impl Calls {
@@ -26,7 +29,7 @@ impl Calls {
         originator: NodeId,
         request: Request,
     ) -> Result<(), NoMemory>
-        requires { call_in self.old number ≡ None }
+        requires { call_of self.old number ≡ None }
         ensures ok { OnOk result (self.new ≡ puts_call number (new_call originator request) self.old) }
         ensures err { OnErr result (self.new ≡ self.old) }
     {
@@ -47,10 +50,10 @@ impl Calls {
         id: TopologyId,
         asks: &[Ask],
     ) -> Result<(), NoMemory>
-        requires left { is_one (λ call. nat_lt call.rounds (granted call)) (call_in self.old number) ≡ true }
-        requires closed { any_open self.old.units number ≡ false }
+        requires left { is_one (λ call. nat_lt call.rounds (granted call)) (call_of self.old number) ≡ true }
+        requires closed { has_open self.old number ≡ false }
         requires numbered { map (λ ask. ask.unit) asks.now ≡ range_with_len (length self.old.units + 1) (length asks.now) }
-        requires segments { map (λ ask. ask.segment) asks.now ≡ incomplete_in self.old number }
+        requires segments { map (λ ask. ask.segment) asks.now ≡ incomplete self.old number }
         ensures ok { OnOk result (self.new ≡ round_of number id asks.now self.old) }
         ensures err { OnErr result (self.new ≡ self.old) }
     {
@@ -59,7 +62,11 @@ impl Calls {
             return Err(NoMemory);
         }
         let mut asked = asked_units(alloc, number, id, asks)?;
-        self.units.append(&mut asked)?;
+        register_all(&mut self.listeners, alloc, asks)?;
+        if self.units.append(&mut asked).is_err() {
+            end_all(&mut self.listeners, asks);
+            return Err(NoMemory);
+        }
         self.table.ask(number, units as u32 + 1, asks);
         Ok(())
     }
@@ -87,4 +94,32 @@ fn asked_units(
         units.push(Unit::asked(alloc, ask.unit, number, ask.segment, ask.node, id))?;
     }
     Ok(units)
+}
+
+/// Registers the units that the asks make, which are new. After want of memory none of them is
+/// registered.
+fn register_all(listeners: &mut Listeners, alloc: Global, asks: &[Ask]) -> Result<(), NoMemory>
+    requires { are_new listeners.old asks.now ≡ true }
+    ensures ok { OnOk result (listeners.new ≡ with_asked listeners.old asks.now) }
+    ensures err { OnErr result (listeners.new ≡ listeners.old) }
+{
+    for ask in asks {
+        if listeners
+            .register(alloc, ask.unit, ask.node, ask.segment)
+            .is_err()
+        {
+            end_all(listeners, asks);
+            return Err(NoMemory);
+        }
+    }
+    Ok(())
+}
+
+/// Takes the units that the asks make out.
+fn end_all(listeners: &mut Listeners, asks: &[Ask])
+    ensures { listeners.new ≡ without_asked listeners.old asks.now }
+{
+    for ask in asks {
+        listeners.end(ask.unit);
+    }
 }

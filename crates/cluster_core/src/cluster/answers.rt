@@ -33,7 +33,7 @@ impl Core {
     /// The call is answered. After want of memory the core is as before.
     pub(crate) fn answer(&mut self, alloc: Global, answer: &AnswerEvent) -> Result<(), NoMemory>
         requires { can_answer self.old answer.now ≡ true }
-        ensures ok { OnOk result (self.new ≡ answered self.old answer.now) }
+        ensures ok { OnOk result (self.new ≡ record self.old { calling = answered self.old.calling answer.now }) }
         ensures err { OnErr result (self.new ≡ self.old) }
     {
         let outcome = answer.outcome.copy(alloc)?;
@@ -50,7 +50,7 @@ impl Core {
         number: CallId,
         call: &Call,
     ) -> Result<Option<Outcome>, NoMemory>
-        requires there { call_of self.now number ≡ Some call.now }
+        requires there { call_of self.now.calling number ≡ Some call.now }
         requires unanswered { is_none call.now.outcome ≡ true }
         ensures { IfOk result (λ outcome. outcome ≡ outcome_of self.now number call.now) }
     {
@@ -70,8 +70,8 @@ impl Core {
     /// Whether every segment is complete for the call; for a call that doesn't ask again, whether its
     /// round was made and no unit is open.
     fn is_whole(&self, number: CallId, call: &Call) -> bool
-        requires { call_of self.now number ≡ Some call.now }
-        ensures { result ≡ is_whole self.now number call.now }
+        requires { call_of self.now.calling number ≡ Some call.now }
+        ensures { result ≡ is_whole self.now.calling number call.now }
     {
         if call.request().guarantee.asks_again() {
             return self.all_complete(number);
@@ -86,10 +86,10 @@ impl Core {
     /// evidence, finished from what is booked, or the end of a walk. The only failure is that memory
     /// runs out.
     fn whole_outcome(&self, alloc: Global, number: CallId, call: &Call) -> Result<Outcome, NoMemory>
-        requires there { call_of self.now number ≡ Some call.now }
+        requires there { call_of self.now.calling number ≡ Some call.now }
         requires unanswered { is_none call.now.outcome ≡ true }
-        requires whole { is_whole self.now number call.now ≡ true }
-        ensures { IfOk result (λ outcome. outcome ≡ whole_outcome self.now number call.now) }
+        requires whole { is_whole self.now.calling number call.now ≡ true }
+        ensures { IfOk result (λ outcome. outcome ≡ whole_outcome self.now.calling number call.now) }
     {
         if call.is_walk() {
             return Ok(Outcome::Ended);
@@ -100,15 +100,15 @@ impl Core {
 
     /// The least segment that is incomplete for the call.
     fn first_incomplete(&self, number: CallId) -> Option<SegmentId>
-        ensures { result ≡ first_of (incomplete self.now number) }
+        ensures { result ≡ first_of (incomplete self.now.calling number) }
     {
         self.calls.incomplete_from(number, SegmentId::new(0))
     }
 
     /// That the call gives up, where it asks again, all granted rounds were made and no unit is open.
     fn given_up(&self, number: CallId, call: &Call) -> Option<Outcome>
-        requires { call_of self.now number ≡ Some call.now }
-        ensures { result ≡ given_up self.now number call.now (first_of (incomplete self.now number)) }
+        requires { call_of self.now.calling number ≡ Some call.now }
+        ensures { result ≡ given_up self.now.calling number call.now (first_of (incomplete self.now.calling number)) }
     {
         if !call.request().guarantee.asks_again() {
             return None;

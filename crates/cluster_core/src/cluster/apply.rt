@@ -20,7 +20,7 @@ impl Core {
         if !self.allows(alloc, event)? {
             return Err(ApplyFault::Refused);
         }
-        self.take(alloc, event)?;
+        self.step(alloc, event)?;
         Ok(())
     }
 
@@ -51,7 +51,7 @@ impl Core {
 
     /// The event happens, which may happen now; it is not looked at again. After want of memory the
     /// core is as before.
-    pub fn take(&mut self, alloc: Global, event: &Event) -> Result<(), NoMemory>
+    pub fn step(&mut self, alloc: Global, event: &Event) -> Result<(), NoMemory>
         requires { allowed self.old event.now ≡ true }
         ensures ok { OnOk result (self.new ≡ changed self.old event.now) }
         ensures err { OnErr result (self.new ≡ self.old) }

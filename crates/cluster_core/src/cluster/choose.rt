@@ -71,7 +71,7 @@ impl Core {
         value: &Datum,
         lifespan: Option<u32>,
     ) -> Result<Option<Event>, NoMemory>
-        ensures { IfOk result (λ event. event ≡ if_allowed self.now (events.Write (record { by = by; node = node; key = key.now; value = value.now; until = option_map (λ ticks. self.now.copying.clock + ticks) lifespan }))) }
+        ensures { IfOk result (λ event. event ≡ if_allowed self.now (events.Write (record { by = by; node = node; key = key.now; value = value.now; until = option_map (λ ticks. self.now.holding.copying.clock + ticks) lifespan }))) }
     {
         if is_longer(lifespan) {
             return Ok(None);
@@ -94,7 +94,7 @@ impl Core {
     /// The clock after a lifespan from now on, which isn't longer than the longest.
     fn deadline(&self, lifespan: Option<u32>) -> Option<u32>
         requires { is_longer lifespan ≡ false }
-        ensures { result ≡ option_map (λ ticks. self.now.copying.clock + ticks) lifespan }
+        ensures { result ≡ option_map (λ ticks. self.now.holding.copying.clock + ticks) lifespan }
     {
         match lifespan {
             None => None,

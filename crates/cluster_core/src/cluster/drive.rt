@@ -39,8 +39,8 @@ impl Core {
     /// An event of the first open unit of the call, which isn't answered, by ascending segment, that
     /// has one. The only failure is that memory runs out.
     fn open_event(&self, alloc: Global, number: CallId) -> Result<Option<Event>, NoMemory>
-        requires { is_unanswered (call_of self.now number) ≡ true }
-        ensures { IfOk result (λ event. event ≡ first_some (unit_event self.now) (open_units self.now number)) }
+        requires { is_unanswered (call_of self.now.calling number) ≡ true }
+        ensures { IfOk result (λ event. event ≡ first_some (unit_event self.now) (open_units self.now.calling number)) }
     {
         let units = self.calls.open_round(number);
         for unit in units {
@@ -57,7 +57,7 @@ impl Core {
     /// Take, Done, Scan, Fetch, Begin of a unit: the first that may happen. The only failure is that
     /// memory runs out.
     pub(crate) fn unit_event(&self, alloc: Global, unit: &Unit) -> Result<Option<Event>, NoMemory>
-        requires there { unit_of self.now unit.now.work.id ≡ Some unit.now }
+        requires there { unit_of self.now.calling unit.now.work.id ≡ Some unit.now }
         ensures { IfOk result (λ event. event ≡ unit_event self.now unit.now) }
     {
         if let Some(event) = self.take_event(alloc, unit)? {

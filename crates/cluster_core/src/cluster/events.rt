@@ -17,15 +17,15 @@ use std::alloc::Global;
 impl Core {
     /// The newest unit of the call on the segment. None comes exactly where there is none.
     pub(crate) fn newest(&self, call: CallId, segment: SegmentId) -> Option<&Unit>
-        ensures newest { option_copied result ≡ newest_unit self.now call segment }
-        ensures there { (unit : states.Unit) → newest_unit self.now call segment ≡ Some unit → unit_of self.now unit.work.id ≡ Some unit }
+        ensures newest { option_copied result ≡ newest_unit self.now.calling call segment }
+        ensures there { (unit : states.Unit) → newest_unit self.now.calling call segment ≡ Some unit → unit_of self.now.calling unit.work.id ≡ Some unit }
     {
         self.calls.newest(call, segment)
     }
 
     /// The beginning of the unit, which runs where its node reads its segment.
     pub(crate) fn begin_event(&self, unit: &Unit) -> Option<Event>
-        requires there { unit_of self.now unit.now.work.id ≡ Some unit.now }
+        requires there { unit_of self.now.calling unit.now.work.id ≡ Some unit.now }
         ensures { result ≡ begin_event self.now unit.now }
     {
         let runs = self.reads(unit);
@@ -40,7 +40,7 @@ impl Core {
 
     /// The end of the unit.
     pub(crate) fn done_event(&self, unit: &Unit) -> Option<Event>
-        requires there { unit_of self.now unit.now.work.id ≡ Some unit.now }
+        requires there { unit_of self.now.calling unit.now.work.id ≡ Some unit.now }
         ensures { result ≡ done_event self.now unit.now }
     {
         if !self.unit_can_end(unit) {
@@ -54,7 +54,7 @@ impl Core {
     /// The batch that the unit reads now for a call of this form. None comes exactly where it reads
     /// none. The only failure is that memory runs out.
     fn batch_now(&self, alloc: Global, walk: bool, unit: &Unit) -> Result<Option<Batch>, NoMemory>
-        requires there { unit_of self.now unit.now.work.id ≡ Some unit.now }
+        requires there { unit_of self.now.calling unit.now.work.id ≡ Some unit.now }
         ensures { IfOk result (λ batch. batch ≡ batch_now self.now walk unit.now) }
     {
         if !self.reads_on(walk, unit) {
@@ -69,7 +69,7 @@ impl Core {
 
     /// The scan of the next batch of a unit of a reduction. The only failure is that memory runs out.
     pub(crate) fn scan_event(&self, alloc: Global, unit: &Unit) -> Result<Option<Event>, NoMemory>
-        requires there { unit_of self.now unit.now.work.id ≡ Some unit.now }
+        requires there { unit_of self.now.calling unit.now.work.id ≡ Some unit.now }
         ensures { IfOk result (λ event. event ≡ scan_event self.now unit.now) }
     {
         let Some(batch) = self.batch_now(alloc, false, unit)? else {
@@ -82,7 +82,7 @@ impl Core {
 
     /// The fetch of the next batch of a unit of a walk. The only failure is that memory runs out.
     pub(crate) fn fetch_event(&self, alloc: Global, unit: &Unit) -> Result<Option<Event>, NoMemory>
-        requires there { unit_of self.now unit.now.work.id ≡ Some unit.now }
+        requires there { unit_of self.now.calling unit.now.work.id ≡ Some unit.now }
         ensures { IfOk result (λ event. event ≡ fetch_event self.now unit.now) }
     {
         let Some(batch) = self.batch_now(alloc, true, unit)? else {
@@ -95,7 +95,7 @@ impl Core {
 
     /// The taking of what flies of the unit. The only failure is that memory runs out.
     pub(crate) fn take_event(&self, alloc: Global, unit: &Unit) -> Result<Option<Event>, NoMemory>
-        requires there { unit_of self.now unit.now.work.id ≡ Some unit.now }
+        requires there { unit_of self.now.calling unit.now.work.id ≡ Some unit.now }
         ensures { IfOk result (λ event. event ≡ take_event self.now unit.now) }
     {
         let Some(take) = self.taking(alloc, unit)? else {

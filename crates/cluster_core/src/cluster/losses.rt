@@ -4,7 +4,9 @@ ghost use Rattle.std.specs.Prelude.{◌≡◌, ℕ, ◌&&◌, nat_lt, not, true,
 ghost use Rattle.std.specs.FinSet as set_of;
 ghost use Rattle.topology_phase.specs.Owners.{among};
 ghost use Rattle.topology_phase.specs.Topologies.{read_owners};
-ghost use Rattle.cluster_model.specs.Topologies.{announced, can_announce, can_depart, can_install, can_join, departed, installed, joined};
+ghost use Rattle.grid_event.specs.declared.event.Event.TheVariants as events;
+ghost use Rattle.cluster_model.specs.Step.{changed};
+ghost use Rattle.cluster_model.specs.Topologies.{announced, can_announce, can_depart, can_install, can_join, joined};
 ghost use Rattle.cluster_model.specs.Transfers.{can_copy, can_land, copied, landed};
 ghost use Rattle.cluster_model.specs.Writes.{can_erase, can_tick, can_write, erased, ticked, written};
 
@@ -19,8 +21,8 @@ use topology_phase::Topology;
 impl Core {
     /// The write happens. After want of memory the core is as before.
     pub(crate) fn write(&mut self, alloc: Global, write: &WriteEvent) -> Result<(), NoMemory>
-        requires { can_write self.old write.now ≡ true }
-        ensures ok { OnOk result (self.new ≡ written self.old write.now) }
+        requires { can_write self.old.holding write.now ≡ true }
+        ensures ok { OnOk result (self.new ≡ record self.old { holding = written self.old.holding write.now }) }
         ensures err { OnErr result (self.new ≡ self.old) }
     {
         self.store.write(alloc, write)?;
@@ -29,8 +31,8 @@ impl Core {
 
     /// The erasure happens. After want of memory the core is as before.
     pub(crate) fn erase(&mut self, alloc: Global, erase: &EraseEvent) -> Result<(), NoMemory>
-        requires { can_erase self.old erase.now ≡ true }
-        ensures ok { OnOk result (self.new ≡ erased self.old erase.now) }
+        requires { can_erase self.old.holding erase.now ≡ true }
+        ensures ok { OnOk result (self.new ≡ record self.old { holding = erased self.old.holding erase.now }) }
         ensures err { OnErr result (self.new ≡ self.old) }
     {
         self.store.erase(alloc, erase)?;
@@ -39,16 +41,16 @@ impl Core {
 
     /// The clock goes on.
     pub(crate) fn tick(&mut self, ticks: u32)
-        requires { can_tick self.old ticks ≡ true }
-        ensures { self.new ≡ ticked self.old ticks }
+        requires { can_tick self.old.holding ticks ≡ true }
+        ensures { self.new ≡ record self.old { holding = ticked self.old.holding ticks } }
     {
         self.store.tick(ticks);
     }
 
     /// The node joins. After want of memory the core is as before.
     pub(crate) fn join(&mut self, alloc: Global, node: NodeId) -> Result<(), NoMemory>
-        requires { can_join self.old node ≡ true }
-        ensures ok { OnOk result (self.new ≡ joined self.old node) }
+        requires { can_join self.old.holding node ≡ true }
+        ensures ok { OnOk result (self.new ≡ record self.old { holding = joined self.old.holding node }) }
         ensures err { OnErr result (self.new ≡ self.old) }
     {
         self.store.join(alloc, node)?;
@@ -58,8 +60,8 @@ impl Core {
     /// The node departs: its open units are lost, and unanswered calls that ask again note the
     /// segments that are lost with it. After want of memory the core is as before.
     pub(crate) fn depart(&mut self, alloc: Global, node: NodeId) -> Result<(), NoMemory>
-        requires { can_depart self.old node ≡ true }
-        ensures ok { OnOk result (self.new ≡ departed self.old node) }
+        requires { can_depart self.old.holding node ≡ true }
+        ensures ok { OnOk result (self.new ≡ changed self.old (events.Depart node)) }
         ensures err { OnErr result (self.new ≡ self.old) }
     {
         let _ = self.store.coord().newest().segments();
@@ -71,8 +73,8 @@ impl Core {
 
     /// The topology is announced. After want of memory the core is as before.
     pub(crate) fn announce(&mut self, alloc: Global, topology: &Topology) -> Result<(), NoMemory>
-        requires { can_announce self.old topology.now ≡ true }
-        ensures ok { OnOk result (self.new ≡ announced self.old topology.now) }
+        requires { can_announce self.old.holding topology.now ≡ true }
+        ensures ok { OnOk result (self.new ≡ record self.old { holding = announced self.old.holding topology.now }) }
         ensures err { OnErr result (self.new ≡ self.old) }
     {
         let topology = topology.copy(alloc)?;
@@ -88,8 +90,8 @@ impl Core {
         node: NodeId,
         id: TopologyId,
     ) -> Result<(), NoMemory>
-        requires { can_install self.old node id ≡ true }
-        ensures ok { OnOk result (self.new ≡ installed self.old node id) }
+        requires { can_install self.old.holding node id ≡ true }
+        ensures ok { OnOk result (self.new ≡ changed self.old (events.Install node id)) }
         ensures err { OnErr result (self.new ≡ self.old) }
     {
         let unread = unread(&self.store, node);
@@ -100,8 +102,8 @@ impl Core {
 
     /// The chunk is sent. After want of memory the core is as before.
     pub(crate) fn copy(&mut self, alloc: Global, copy: &CopyEvent) -> Result<(), NoMemory>
-        requires { can_copy self.old copy.now ≡ true }
-        ensures ok { OnOk result (self.new ≡ copied self.old copy.now) }
+        requires { can_copy self.old.holding copy.now ≡ true }
+        ensures ok { OnOk result (self.new ≡ record self.old { holding = copied self.old.holding copy.now }) }
         ensures err { OnErr result (self.new ≡ self.old) }
     {
         self.store.copy(alloc, copy)?;
@@ -115,8 +117,8 @@ impl Core {
         receiver: NodeId,
         segment: SegmentId,
     ) -> Result<(), NoMemory>
-        requires { can_land self.old receiver segment ≡ true }
-        ensures ok { OnOk result (self.new ≡ landed self.old receiver segment) }
+        requires { can_land self.old.holding receiver segment ≡ true }
+        ensures ok { OnOk result (self.new ≡ record self.old { holding = landed self.old.holding receiver segment }) }
         ensures err { OnErr result (self.new ≡ self.old) }
     {
         self.store.land(alloc, receiver, segment)?;

@@ -15,10 +15,10 @@ use pipeline_split::Piece;
 use std::alloc::Global;
 
 impl Core {
-    /// Lends the piece that is booked for the segment of the call: that of what its units read that
-    /// ended, and of what lost ones read too where the guarantee keeps it. None comes exactly where
-    /// the call isn't a reduction that isn't answered, or where there is no such unit. It takes no
-    /// memory.
+    /// Borrows the piece booked for a segment of a reduction that isn't answered. It is the piece of
+    /// what units of the call read that ended there, and of what lost units read where the guarantee
+    /// keeps it. None comes exactly where the call is no such reduction, or has no such unit. It takes
+    /// no memory.
     pub fn part(&self, call: CallId, segment: SegmentId) -> Option<&Piece>
         ensures { option_copied result ≡ part_of self.now call segment }
     {
@@ -78,7 +78,7 @@ impl Core {
     fn end_with(&mut self, alloc: Global, number: UnitId, piece: Piece) -> Result<(), NoMemory>
         requires may { can_end self.old number ≡ true }
         requires piece { piece_of self.old number ≡ Some piece }
-        ensures ok { OnOk result (self.new ≡ ended_unit self.old number) }
+        ensures ok { OnOk result (self.new ≡ record self.old { calling = ended_unit self.old.calling number }) }
         ensures err { OnErr result (self.new ≡ self.old) }
     {
         self.calls.end_with(alloc, number, piece)?;

@@ -42,7 +42,7 @@ impl Core {
     /// The call is made. After want of memory the core is as before.
     pub(crate) fn invoke(&mut self, alloc: Global, invoke: &InvokeEvent) -> Result<(), NoMemory>
         requires { can_invoke self.old invoke.now ≡ true }
-        ensures ok { OnOk result (self.new ≡ invoked self.old invoke.now) }
+        ensures ok { OnOk result (self.new ≡ record self.old { calling = invoked self.old.calling invoke.now }) }
         ensures err { OnErr result (self.new ≡ self.old) }
     {
         let request = invoke.request.copy(alloc)?;
@@ -75,7 +75,7 @@ impl Core {
     /// are want of memory.
     pub(crate) fn round(&mut self, alloc: Global, round: &RoundEvent) -> Result<(), NoMemory>
         requires { can_round self.old round.now ≡ true }
-        ensures ok { OnOk result (self.new ≡ rounded self.old round.now) }
+        ensures ok { OnOk result (self.new ≡ record self.old { calling = rounded self.old.calling round.now }) }
         ensures err { OnErr result (self.new ≡ self.old) }
     {
         self.calls
@@ -87,7 +87,7 @@ impl Core {
     /// segment is incomplete, each incomplete one has a live reader, and the originator has caught
     /// up.
     pub(crate) fn is_due(&self, number: CallId, call: &Call) -> bool
-        requires { call_of self.now number ≡ Some call.now }
+        requires { call_of self.now.calling number ≡ Some call.now }
         ensures { result ≡ is_due self.now number call.now }
     {
         if has_lost(call) {
@@ -110,21 +110,21 @@ impl Core {
 
     /// Whether a unit of the call is open.
     pub(crate) fn has_open(&self, number: CallId) -> bool
-        ensures { result ≡ has_open self.now number }
+        ensures { result ≡ has_open self.now.calling number }
     {
         self.calls.has_open(number)
     }
 
     /// Whether every segment is complete for the call.
     pub(crate) fn all_complete(&self, number: CallId) -> bool
-        ensures { result ≡ all_complete self.now number }
+        ensures { result ≡ all_complete self.now.calling number }
     {
         self.calls.all_complete(number)
     }
 
     /// Whether the segment is complete for the call.
     fn is_complete(&self, number: CallId, segment: SegmentId) -> bool
-        ensures { result ≡ is_complete self.now.units number segment }
+        ensures { result ≡ is_complete self.now.calling.units number segment }
     {
         self.calls.is_complete(number, segment)
     }
@@ -132,7 +132,7 @@ impl Core {
     /// Whether the originator has installed a topology not older than any at which a unit of the
     /// last round was refused or was lost by an installation.
     fn has_caught_up(&self, number: CallId, call: &Call) -> bool
-        requires { call_of self.now number ≡ Some call.now }
+        requires { call_of self.now.calling number ≡ Some call.now }
         ensures { result ≡ has_caught_up self.now call.now }
     {
         self.calls
@@ -142,9 +142,9 @@ impl Core {
     /// Whether each incomplete segment of the call has a live reader by the topology that the
     /// originator has installed.
     fn have_readers(&self, number: CallId, originator: NodeId) -> bool
-        ensures { result ≡ list_all (has_reader self.now originator) (incomplete self.now number) }
+        ensures { result ≡ list_all (has_reader self.now.holding originator) (incomplete self.now.calling number) }
     {
-        for place in 0..self.store.config().segments {
+        for place in 0..self.calls.segments() {
             let segment = SegmentId::new(place);
             if self.is_complete(number, segment) {
                 continue;
@@ -165,11 +165,11 @@ impl Core {
         number: CallId,
         originator: NodeId,
     ) -> Result<Items<Ask>, NoMemory>
-        ensures { IfOk result (λ asks. asks ≡ asks_from self.now originator (length self.now.units + 1) (incomplete self.now number)) }
+        ensures { IfOk result (λ asks. asks ≡ asks_from self.now.holding originator (length self.now.calling.units + 1) (incomplete self.now.calling number)) }
     {
         let mut asks = Vec::new(alloc);
         let mut unit = self.calls.units().len();
-        for place in 0..self.store.config().segments {
+        for place in 0..self.calls.segments() {
             let segment = SegmentId::new(place);
             if self.is_complete(number, segment) {
                 continue;
@@ -185,7 +185,7 @@ impl Core {
 
     /// The ask of the segment's first live reader by the unit; of node 0 where there is none.
     fn ask(&self, originator: NodeId, unit: UnitId, segment: SegmentId) -> Ask
-        ensures { result ≡ record { unit = unit; segment = segment; node = unwrap_or (first_reader self.now originator segment) 0 } }
+        ensures { result ≡ record { unit = unit; segment = segment; node = unwrap_or (first_reader self.now.holding originator segment) 0 } }
     {
         let reader = self.store.first_reader(originator, segment);
         let node = reader.unwrap_or(NodeId::new(0));

@@ -32,7 +32,7 @@ impl Core {
     /// An event of the first open unit at the node that has one. The only failure is that memory
     /// runs out.
     fn first_served(&self, alloc: Global, node: NodeId) -> Result<Option<Event>, NoMemory>
-        ensures { IfOk result (λ event. event ≡ first_some (served_event self.now) (units_at self.now node)) }
+        ensures { IfOk result (λ event. event ≡ first_some (served_event self.now) (units_at self.now.calling node)) }
     {
         let units = self.calls.waiting();
         for unit in units {
@@ -52,7 +52,7 @@ impl Core {
     /// Done of a walk, Scan, Fetch, Begin of a unit: the first that may happen. The only failure is
     /// that memory runs out.
     fn served_event(&self, alloc: Global, unit: &Unit) -> Result<Option<Event>, NoMemory>
-        requires there { unit_of self.now unit.now.work.id ≡ Some unit.now }
+        requires there { unit_of self.now.calling unit.now.work.id ≡ Some unit.now }
         ensures { IfOk result (λ event. event ≡ served_event self.now unit.now) }
     {
         if self.walks(unit.call()) {

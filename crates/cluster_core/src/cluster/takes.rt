@@ -41,7 +41,7 @@ impl Core {
     /// The entries are taken, and the items were given. After want of memory the core is as before.
     pub(crate) fn take_batch(&mut self, alloc: Global, take: &TakeEvent) -> Result<(), NoMemory>
         requires { can_take self.old take.now ≡ true }
-        ensures ok { OnOk result (self.new ≡ taken_by self.old take.now) }
+        ensures ok { OnOk result (self.new ≡ record self.old { calling = taken_by self.old.calling take.now }) }
         ensures err { OnErr result (self.new ≡ self.old) }
     {
         let given = take.given.len() as u64;

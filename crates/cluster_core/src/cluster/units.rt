@@ -17,7 +17,7 @@ use std::alloc::Global;
 impl Core {
     /// Whether the unit's node reads the unit's segment by the topology that it has installed.
     pub(crate) fn reads(&self, unit: &Unit) -> bool
-        ensures { result ≡ reads self.now unit.now }
+        ensures { result ≡ reads self.now.holding unit.now }
     {
         let work = unit.work();
         self.store.reads(work.node, work.segment)
@@ -55,7 +55,7 @@ impl Core {
     /// The unit runs, or it is refused at the topology that its node has installed.
     pub(crate) fn begin(&mut self, number: UnitId, runs: bool)
         requires { can_begin self.old number runs ≡ true }
-        ensures { self.new ≡ begun_unit self.old number runs }
+        ensures { self.new ≡ record self.old { calling = begun_unit self.old.holding self.old.calling number runs } }
     {
         match self.unit(number) {
             None => unreachable!(),
@@ -98,7 +98,7 @@ impl Core {
     /// is as before.
     pub(crate) fn end(&mut self, alloc: Global, number: UnitId) -> Result<(), NoMemory>
         requires { can_end self.old number ≡ true }
-        ensures ok { OnOk result (self.new ≡ ended_unit self.old number) }
+        ensures ok { OnOk result (self.new ≡ record self.old { calling = ended_unit self.old.calling number }) }
         ensures err { OnErr result (self.new ≡ self.old) }
     {
         self.calls.end(alloc, number)?;
@@ -107,7 +107,7 @@ impl Core {
 
     /// How many entries the call reads at a time; 0 where it isn't there.
     fn batch_size(&self, number: CallId) -> u16
-        ensures { result ≡ batch_size (call_of self.now number) }
+        ensures { result ≡ batch_size (call_of self.now.calling number) }
     {
         match self.call(number) {
             None => 0,
@@ -117,7 +117,7 @@ impl Core {
 
     /// Whether the call is a walk; one that isn't there is none.
     pub(crate) fn walks(&self, number: CallId) -> bool
-        ensures { result ≡ walks (call_of self.now number) }
+        ensures { result ≡ walks (call_of self.now.calling number) }
     {
         match self.call(number) {
             None => false,
@@ -155,7 +155,7 @@ impl Core {
         unit: &Unit,
     ) -> Result<Batch, NoMemory>
         requires reading { reads_on self.now walk unit.now ≡ true }
-        requires there { unit_of self.now unit.now.work.id ≡ Some unit.now }
+        requires there { unit_of self.now.calling unit.now.work.id ≡ Some unit.now }
         ensures { IfOk result (λ batch. batch ≡ next_batch self.now unit.now) }
     {
         let work = unit.work();
@@ -167,7 +167,7 @@ impl Core {
 
     /// Whether all units together have room to read so many entries more.
     pub(crate) fn has_room(&self, more: usize) -> bool
-        ensures { result ≡ nat_le (read_by self.now.units + more) MOST_READ }
+        ensures { result ≡ nat_le (read_by self.now.calling.units + more) MOST_READ }
     {
         match (more as u64).checked_add(self.calls.read()) {
             None => false,
@@ -183,7 +183,7 @@ impl Core {
         number: UnitId,
         batch: &Batch,
     ) -> Result<bool, NoMemory>
-        ensures { IfOk result (λ may. may ≡ can_read self.now walk batch.now (unit_of self.now number)) }
+        ensures { IfOk result (λ may. may ≡ can_read self.now walk batch.now (unit_of self.now.calling number)) }
     {
         let Some(unit) = self.unit(number) else {
             return Ok(false);
@@ -218,7 +218,7 @@ impl Core {
     /// The unit has read the batch. After want of memory the core is as before.
     pub(crate) fn scan(&mut self, alloc: Global, scan: &ScanEvent) -> Result<(), NoMemory>
         requires { can_scan self.old scan.now ≡ true }
-        ensures ok { OnOk result (self.new ≡ scanned self.old scan.now) }
+        ensures ok { OnOk result (self.new ≡ record self.old { calling = scanned self.old.calling scan.now }) }
         ensures err { OnErr result (self.new ≡ self.old) }
     {
         let batch = scan.batch.copy(alloc)?;
@@ -230,7 +230,7 @@ impl Core {
     /// as before.
     pub(crate) fn fetch(&mut self, alloc: Global, fetch: &FetchEvent) -> Result<(), NoMemory>
         requires { can_fetch self.old fetch.now ≡ true }
-        ensures ok { OnOk result (self.new ≡ fetched self.old fetch.now) }
+        ensures ok { OnOk result (self.new ≡ record self.old { calling = fetched self.old.calling fetch.now }) }
         ensures err { OnErr result (self.new ≡ self.old) }
     {
         let batch = fetch.batch.copy(alloc)?;

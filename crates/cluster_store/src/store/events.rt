@@ -6,7 +6,7 @@ ghost use Rattle.topology_coord.specs.Coordination.{live_nodes};
 ghost use Rattle.cluster_model.specs.Commands.{advance_event, announce_event, cancel_event, copy_event, first_some, install_event, land_event};
 ghost use Rattle.cluster_model.specs.State.{segments_of};
 
-use crate::known::Flying;
+use crate::hints::Flying;
 use crate::store::Store;
 use grid_base::{NoMemory, NodeId, SegmentId};
 use grid_event::{CopyEvent, Event};
@@ -117,7 +117,7 @@ impl Store {
     pub fn first_landing(&self, node: NodeId) -> Option<Event>
         ensures { result ≡ first_some (land_event self.now node) (segments_of self.now) }
     {
-        match self.known.flying {
+        match self.hints.flying {
             Flying::Nothing => return None,
             Flying::Only(receiver, segment) => {
                 if receiver != node {

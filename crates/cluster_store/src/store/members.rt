@@ -6,7 +6,7 @@ ghost use Rattle.state_transfer.specs.Leaving.{forgets};
 ghost use Rattle.topology_coord.specs.Coordination.{loses};
 ghost use Rattle.cluster_model.specs.Topologies.{can_depart, can_join, departed, joined};
 
-use crate::known::Ahead;
+use crate::hints::Ahead;
 use crate::store::Store;
 use grid_base::limits::MOST_NODES;
 use grid_base::{NoMemory, NodeId, SegmentId};
@@ -47,7 +47,7 @@ impl Store {
         self.copies.join(alloc, node)?;
         self.coord.join(node);
         let ahead = Ahead::of(alloc, &self.coord);
-        self.known.change(ahead);
+        self.hints.change(ahead);
         Ok(())
     }
 
@@ -62,7 +62,7 @@ impl Store {
         self.copies.restart(node);
         forget_all(&mut self.copies, &lost);
         self.copies.depart(node);
-        self.known.change(Ahead::Unknown);
+        self.hints.change(Ahead::Unknown);
         lost
     }
 }

@@ -10,7 +10,7 @@ ghost use Rattle.cluster_model.specs.Commands.{cancel_event};
 ghost use Rattle.cluster_model.specs.Topologies.{all_copied, announced, can_announce, can_install, installed, next_topology};
 ghost use Rattle.cluster_store.specs.Receivers.{has_copies, is_copied};
 
-use crate::known::Ahead;
+use crate::hints::Ahead;
 use crate::owners::pending_owners;
 use crate::store::Store;
 use grid_base::{NoMemory, NodeId, SegmentId, TopologyId};
@@ -52,7 +52,7 @@ impl Store {
     {
         let keeps = topology.phase().is(Phase::ReadOld);
         self.coord.announce(topology);
-        self.known.announce(keeps);
+        self.hints.announce(keeps);
         if keeps {
             return;
         }
@@ -69,7 +69,7 @@ impl Store {
         let _ = self.coord.install(node);
         drop_unwritten(&mut self.copies, self.coord.newest(), node);
         let ahead = Ahead::of(alloc, &self.coord);
-        self.known.change(ahead);
+        self.hints.change(ahead);
     }
 
     /// The next topology. None comes exactly where there is none. The only failure is that memory
@@ -87,14 +87,14 @@ impl Store {
     fn ends(&self) -> bool
         ensures { result ≡ true → next_topology self.now ≡ None }
     {
-        matches!(self.known.ahead, Ahead::NoTopology)
+        matches!(self.hints.ahead, Ahead::NoTopology)
     }
 
     /// Whether it is known that the next topology doesn't give up a rebalance.
     pub(crate) fn goes_on(&self) -> bool
         ensures { result ≡ true → cancel_event self.now ≡ None }
     {
-        matches!(self.known.ahead, Ahead::NoTopology | Ahead::NoCancellation)
+        matches!(self.hints.ahead, Ahead::NoTopology | Ahead::NoCancellation)
     }
 
     /// Whether every receiver of a segment has ended its transfer.

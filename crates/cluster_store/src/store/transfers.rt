@@ -2,10 +2,10 @@
 
 ghost use Rattle.std.specs.Prelude.{◌≡◌, ℕ, ◌<◌, ◌≤◌, false, true, None, Some, IfOk, OnErr, OnOk};
 ghost use Rattle.cluster_model.specs.Transfers.{can_copy, can_land, copied, landed, next_chunk_of, provider};
-ghost use Rattle.cluster_store.specs.Known.{IsPassed};
+ghost use Rattle.cluster_store.specs.Hints.{IsPassed};
 ghost use Rattle.cluster_store.specs.Sending.{sender};
 
-use crate::known::Place;
+use crate::hints::Place;
 use crate::matches::same_chunk;
 use crate::owners::current_owners;
 use crate::store::Store;
@@ -49,9 +49,9 @@ impl Store {
         let _ = self
             .copies
             .copy_chunk(alloc, receiver, segment, copy.provider, most)?;
-        self.known.send(receiver, segment);
+        self.hints.send(receiver, segment);
         let from = self.place_up_to(receiver, segment);
-        self.known.from = from;
+        self.hints.from = from;
         Ok(())
     }
 
@@ -68,7 +68,7 @@ impl Store {
         ensures err { OnErr result (self.new ≡ self.old) }
     {
         let _ = self.copies.apply_chunk(alloc, receiver, segment)?;
-        self.known.land(receiver, segment);
+        self.hints.land(receiver, segment);
         Ok(())
     }
 
@@ -102,7 +102,7 @@ impl Store {
     pub(crate) fn first_sending(&self, receiver: NodeId) -> u16
         ensures { (s : ℕ) → s < result → s < self.now.config.segments → sender self.now receiver s ≡ None }
     {
-        let from = self.known.from;
+        let from = self.hints.from;
         if receiver.number() < from.receiver.number() {
             return self.config.segments;
         }
@@ -120,7 +120,7 @@ impl Store {
     fn place_up_to(&self, receiver: NodeId, segment: SegmentId) -> Place
         ensures { IsPassed self.now result.receiver result.segment }
     {
-        let from = self.known.from;
+        let from = self.hints.from;
         if receiver.number() < from.receiver.number() {
             return from;
         }

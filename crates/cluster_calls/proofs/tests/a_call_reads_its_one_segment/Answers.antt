@@ -6,7 +6,8 @@ use Rattle.grid_event.specs.declared.call_events.Ask.{Ask}
 use Rattle.local_publisher.specs.Units.{begun, extended}
 use Rattle.cluster_model.specs.State.{Unit}
 use Rattle.cluster_model.specs.Units.{read_by}
-use Rattle.cluster_calls.specs.Calling.{may_begin, may_end, may_read, unit_made}
+use Rattle.cluster_model.specs.Calls.{unit_made}
+use Rattle.cluster_calls.specs.Calling.{may_begin, may_end, may_read}
 use Rattle.cluster_calls.proofs.TestLaws.{as_late, is_asked, is_first, is_incomplete, is_made, no_call, none_open, only_changed, only_passes}
 use Rattle.cluster_calls.proofs.tests.a_call_reads_its_one_segment.Goals as goal
 

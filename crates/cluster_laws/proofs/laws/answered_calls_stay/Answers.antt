@@ -1,5 +1,5 @@
 -- All is kept in every run, and an event that may happen is of no answered call.
-use Rattle.cluster_laws.proofs.AnswerRuns.{answered_stay}
+use Rattle.cluster_laws.proofs.answers.AnswerRuns.{answered_stay}
 use Rattle.cluster_laws.proofs.laws.answered_calls_stay.Goals as goal
 
 pub returns : goal.returns

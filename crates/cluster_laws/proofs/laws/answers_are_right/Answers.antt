@@ -1,5 +1,5 @@
 -- All that is right is kept in every run.
-use Rattle.cluster_laws.proofs.AnswerRuns.{calls_right}
+use Rattle.cluster_laws.proofs.answers.AnswerRuns.{calls_right}
 use Rattle.cluster_laws.proofs.laws.answers_are_right.Goals as goal
 
 pub returns : goal.returns

@@ -1,5 +1,5 @@
 -- All is kept in every run, and this follows from it.
-use Rattle.cluster_laws.proofs.AnswerRuns.{units_alone}
+use Rattle.cluster_laws.proofs.answers.AnswerRuns.{units_alone}
 use Rattle.cluster_laws.proofs.laws.one_unit_stands.Goals as goal
 
 pub returns : goal.returns

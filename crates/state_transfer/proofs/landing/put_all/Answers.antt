@@ -21,7 +21,7 @@ loop-left-init c =
       nodes = refl;
       clock = refl;
       fits = omega arith;
-      so_far = laws.landed_none r s c.args.passage.now.touched cells ∙ ap (λ es. landed_in r s c.args.passage.now.touched es cells) (sym (drop_all (length c.args.entries.now) c.args.entries.now (omega arith)));
+      so_far = laws.landed_none r s c.args.transfer.now.touched cells ∙ ap (λ es. landed_in r s c.args.transfer.now.touched es cells) (sym (drop_all (length c.args.entries.now) c.args.entries.now (omega arith)));
       steps = laws.nothing_done r s c.args.holders.now.clock c.args.steps.now.items cells c.requires.none;
     }
 
@@ -29,7 +29,7 @@ pub loop-left-preserved : goal.loop-left-preserved
 loop-left-preserved c =
     let r = c.args.to.receiver in
     let s = c.args.to.segment in
-    let touched = c.args.passage.now.touched in
+    let touched = c.args.transfer.now.touched in
     let before = c.loop-left.holders in
     let first = c.args.holders.now.cells in
     let entry = c.index-entries-left.result in

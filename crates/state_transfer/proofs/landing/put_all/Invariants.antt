@@ -8,7 +8,7 @@ invariant-loop-left l = record {
   nodes : l.holders.nodes ≡ l.fn.holders.nodes;
   clock : l.holders.clock ≡ l.fn.holders.clock;
   fits : l.left ≤ length l.entries;
-  so_far : l.holders.cells ≡ landed_in l.to.receiver l.to.segment l.passage.touched (drop l.left l.entries) l.fn.holders.cells;
+  so_far : l.holders.cells ≡ landed_in l.to.receiver l.to.segment l.transfer.touched (drop l.left l.entries) l.fn.holders.cells;
   steps : TakesBack l.to.receiver l.to.segment l.fn.holders.clock (reverse l.steps.items) l.holders.cells l.fn.holders.cells;
 }
 

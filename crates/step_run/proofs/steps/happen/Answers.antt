@@ -33,5 +33,5 @@ pub returns-clause-leaves : goal.returns-clause-leaves
 returns-clause-leaves c =
     let room = not_true (passes_limit c.args.journal.now.history c.args.event) (λ full. let e = c.in-Ok.ensures.full.1 full in cc) in
     with_event_at-room c.args.line c.args.event c.args.core.now c.args.journal.now.history room
-    ∙ same_running (sym (on_ok c.take.result c.if-is_err.ensures.value c.take.ensures.ok))
+    ∙ same_running (sym (on_ok c.step.result c.if-is_err.ensures.value c.step.ensures.ok))
     (ap (λ (h : History). with_event h c.args.event) (sym c.prepare.ensures.same) ∙ sym (on_ok c.push.result c.if-is_err-2.ensures.value c.push.ensures.ok))

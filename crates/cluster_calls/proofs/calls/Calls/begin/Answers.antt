@@ -1,12 +1,12 @@
-use Rattle.std.proofs.Common.{◌≡◌, Bool, true, nat_le, if◌then◌else◌, None, Some, is_some, refl, sym, subst, ap, ◌∙◌, arith}
+use Rattle.std.proofs.Common.{◌≡◌, Bool, true, cond, nat_le, if◌then◌else◌, None, Some, is_some, refl, sym, subst, ap, ◌∙◌, arith}
 use Rattle.std.specs.FinMap as map_of
 use Rattle.std.specs.Prelude.{slice_get}
 use Rattle.local_publisher.specs.Units.{begun}
 use Rattle.local_publisher.specs.declared.unit_state.UnitState.{UnitState}
 use Rattle.local_publisher.specs.declared.unit_state.UnitState.TheVariants.{Running, Refused}
-use Rattle.cluster_model.specs.State.{Unit, is_asked, is_ended, is_open_unit, is_running}
+use Rattle.cluster_model.specs.State.{Calling, Unit, is_asked, is_ended, is_open_unit, is_running, unit_in}
 use Rattle.local_publisher.specs.Stages.{is_open}
-use Rattle.cluster_calls.specs.Calling.{Calling, changes_unit, is_one, unit_in, may_begin}
+use Rattle.cluster_calls.specs.Calling.{changes_unit, is_one, may_begin}
 use Rattle.cluster_calls.specs.Parts.{has_begun, is_booked}
 use Rattle.cluster_calls.specs.Rows.{calls_in, changes_row, may_close, with_row_without_open}
 use Rattle.cluster_calls.proofs.CallsLaws.{changed_kept, changed_seen, numbers, read_unit, asked_open, may_close_it}
@@ -16,6 +16,10 @@ use Rattle.cluster_calls.proofs.PastLaws.{past_row, past_set}
 use Rattle.cluster_calls.proofs.RightLaws.{there, after_closed, after_same}
 use Rattle.cluster_calls.proofs.BothLaws.{and_left}
 use Rattle.cluster_calls.proofs.RowTables.{calls_in-same}
+use Rattle.std.specs.Prelude.{slice_set}
+use Rattle.loss_listener.specs.Registered.{Registered}
+use Rattle.cluster_calls.specs.Listed.{AreRegistered}
+use Rattle.cluster_calls.proofs.ListedLaws.{registered_closed, registered_same}
 use Rattle.cluster_calls.proofs.calls.Calls.begin.Goals as goal
 
 pub index_mut-unit-requires : goal.index_mut-unit-requires
@@ -69,7 +73,7 @@ invariant_of-self c =
     let stage : (b : Bool) → UnitState = λ b. if b then Running else Refused c.args.at in
     let landed : is_some h.unit.flying ≡ true → is_running after.work.state ≡ true = λ e. absurd (let w = sym (flew e) ∙ ap is_running state in cc) in
     changed_kept c.self.inside c.self.invariant c.place_of-place.result h.unit after c.begin.new.self
-    (changes_row h.unit.work.call (with_row_without_open h.unit.work.segment None) c.self.inside.table) c.close.new.self c.self.inside.read at
+    (changes_row h.unit.work.call (with_row_without_open h.unit.work.segment None) c.self.inside.table) c.close.new.self c.end.new.self c.self.inside.read at
     (c.begin.ensures ∙ ap (λ (u : Unit). record u { work = begun u.work c.args.runs c.args.at }) is)
     (c.close.ensures ∙ (λ i. changes_row (call i) (with_row_without_open (segment i) None) c.self.inside.table)) refl c.self.invariant.few
     (after_closed c.self.inside.segments units c.self.inside.table c.place_of-place.result h.unit after h.unit.work.segment None c.self.invariant.right at (record { id = refl; call = refl; segment = refl })
@@ -79,6 +83,9 @@ invariant_of-self c =
     (λ row g. booking_none units after row.call (ap (λ (b : Bool). is_booked row.call (record h.unit { work = begun h.unit.work b c.args.at })) c.if-not-runs.true)))
     (past_set units (changes_row h.unit.work.call (with_row_without_open h.unit.work.segment None) c.self.inside.table) c.self.inside.past c.place_of-place.result h.unit after at refl (λ e. open_)
     (past_row units c.self.inside.table c.self.inside.past h.unit.work.call (with_row_without_open h.unit.work.segment None) (λ row over. over) c.self.invariant.past))
+    (subst (λ (m : Registered). AreRegistered (slice_set units c.place_of-place.result after) m) (sym c.end.ensures)
+    (registered_closed units c.self.inside.listeners c.place_of-place.result h.unit after c.id-id.result c.self.invariant.registered at
+    (c.id-id.ensures ∙ ap (λ (u : Unit). u.work.id) is ∙ place.id) (ap (λ b. is_open (stage b)) c.if-not-runs.true)))
 
 pub invariant_of-self-else-not-runs : goal.invariant_of-self-else-not-runs
 invariant_of-self-else-not-runs c =
@@ -96,13 +103,15 @@ invariant_of-self-else-not-runs c =
     let after : Unit = record h.unit { work = begun h.unit.work c.args.runs c.args.at } in
     let stage : (b : Bool) → UnitState = λ b. if b then Running else Refused c.args.at in
     let landed : is_some h.unit.flying ≡ true → is_running after.work.state ≡ true = λ e. absurd (let w = sym (flew e) ∙ ap is_running state in cc) in
-    changed_kept c.self.inside c.self.invariant c.place_of-place.result h.unit after c.begin.new.self c.self.inside.table c.self.inside.table c.self.inside.read at
+    changed_kept c.self.inside c.self.invariant c.place_of-place.result h.unit after c.begin.new.self c.self.inside.table c.self.inside.table c.self.inside.listeners c.self.inside.read at
     (c.begin.ensures ∙ ap (λ (u : Unit). record u { work = begun u.work c.args.runs c.args.at }) is) refl refl c.self.invariant.few
     (after_same c.self.inside.segments units c.self.inside.table c.place_of-place.result h.unit after c.self.invariant.right at (record { id = refl; call = refl; segment = refl })
     landed (ap (λ b. is_open (stage b)) c.if-not-runs.false ∙ sym open_) (ap (λ b. is_ended (stage b)) c.if-not-runs.false ∙ sym (ap is_ended state)))
     (pieced_open c.self.inside.segments units c.self.inside.table c.place_of-place.result h.unit after c.self.invariant.pieced at
     (record { id = refl; call = refl; segment = refl }) open_ (ap (λ b. is_open (stage b)) c.if-not-runs.false) (λ e. c.self.invariant.pieced.unread c.place_of-place.result h.unit at (ap has_begun state)))
     (past_set units c.self.inside.table c.self.inside.past c.place_of-place.result h.unit after at refl (λ e. open_) c.self.invariant.past)
+    (registered_same units c.self.inside.listeners c.place_of-place.result h.unit after c.self.invariant.registered at
+    (ap (λ b. cond b (Some (record { node = h.unit.work.node; segment = h.unit.work.segment })) None) (ap (λ b. is_open (stage b)) c.if-not-runs.false ∙ sym open_)))
 
 pub returns-then-not-runs : goal.returns-then-not-runs
 returns-then-not-runs c =

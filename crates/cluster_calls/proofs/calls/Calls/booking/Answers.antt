@@ -6,8 +6,7 @@ use Rattle.local_publisher.specs.Work.{Work}
 use Rattle.pipeline_split.specs.Pieces.{joined, piece}
 use Rattle.pipeline_split.specs.declared.piece.Piece.TheVariants.{Nothing}
 use Rattle.reduce_cluster.specs.Reduced.{share_of}
-use Rattle.cluster_model.specs.State.{Unit}
-use Rattle.cluster_calls.specs.Calling.{Calling}
+use Rattle.cluster_model.specs.State.{Calling, Unit}
 use Rattle.cluster_calls.specs.Parts.{booking_in}
 use Rattle.cluster_calls.proofs.CallsLaws.{read_unit}
 use Rattle.cluster_calls.proofs.ListLaws.{get_within}

@@ -6,8 +6,7 @@ use Rattle.local_publisher.specs.Units.{ended}
 use Rattle.pipeline_split.specs.Pieces.{joined}
 use Rattle.pipeline_split.specs.declared.piece.Piece.TheVariants.{Nothing}
 use Rattle.reduce_cluster.specs.Reduced.{share_of}
-use Rattle.cluster_model.specs.State.{Unit}
-use Rattle.cluster_calls.specs.Calling.{Calling, call_in}
+use Rattle.cluster_model.specs.State.{Calling, Unit, call_of}
 use Rattle.cluster_calls.specs.Parts.{booking_in}
 use Rattle.cluster_calls.specs.declared.row.Row.{Row}
 use Rattle.cluster_calls.proofs.CallsLaws.{read_unit}
@@ -63,8 +62,8 @@ returns c = λ u g.
     let parts = c.in-Some-parts.parts in
     let segment = c.segment.ensures ∙ ap (λ (w : Unit). w.work.segment) is in
     let has = parts_of_row c.self.inside.segments units rows u.work.call row parts c.self.invariant.pieced there c.in-Some-parts.is in
-    let called : call_in c.args.self.now u.work.call ≡ Some row.call =
-    sym (ap (λ (x : Calling). call_in x u.work.call) c.self.view_is) ∙ get-calls_in rows u.work.call ∙ ap (option_map (λ (r : Row). r.call)) there in
+    let called : call_of c.args.self.now u.work.call ≡ Some row.call =
+    sym (ap (λ (x : Calling). call_of x u.work.call) c.self.view_is) ∙ get-calls_in rows u.work.call ∙ ap (option_map (λ (r : Row). r.call)) there in
     let made = c.in_ok-made.ensures ∙ (λ i. joined (share_of Nothing parts.booked (segment i)) (c.requires.piece u row.call g called i)) in
     some_booking c.self.inside.segments units rows (record u { work = ended u.work }) row parts c.in_ok-made.made c.self.invariant.pieced
     (c.self.invariant.right.placed c.args.place u at).within there c.in-Some-parts.is refl made

@@ -1,16 +1,13 @@
-use Rattle.std.proofs.Common.{◌≡◌, ◌≤◌, ℕ, ◌++◌, map, take, drop, length}
-use Rattle.std.specs.Prelude.{slice_get}
-use Rattle.cluster_calls.specs.Calling.{with_installation}
-use Rattle.cluster_calls.specs.Parts.{booking_ceased}
+-- Nothing but units has changed; to lose all that cease comes to the same as before; and this is still to be lost.
+use Rattle.std.proofs.Common.{◌≡◌, Some, map}
+use Rattle.cluster_calls.specs.Calling.{ceases_at}
+use Rattle.cluster_calls.proofs.LosingLaws.{AreLosing, lost_where}
 use Rattle.cluster_calls.proofs.calls.Calls.cease_each.Given as goal
 
-abbrev pub invariant-loop-place : goal.invariant-loop-place
-invariant-loop-place l =
+abbrev pub invariant-loop-index : goal.invariant-loop-index
+invariant-loop-index l =
     record {
       rest : l.self ≡ record l.initial.self { units = l.self.units };
-      units : l.self.units ≡ map (with_installation l.node l.segments l.id) (take l.place l.initial.self.units) ++ drop l.place l.initial.self.units;
-      long : length l.self.units ≡ length l.initial.self.units;
-      count : l.count ≡ length l.initial.self.units;
-      wide : length l.made.items ≡ length l.initial.self.units;
-      made : (j : ℕ) → l.place ≤ j → slice_get l.made.items j ≡ slice_get (map (booking_ceased l.initial.self l.node l.segments l.id) l.initial.self.units) j;
+      units : map (lost_where (ceases_at l.node l.segments) (Some l.id)) l.self.units ≡ map (lost_where (ceases_at l.node l.segments) (Some l.id)) l.initial.self.units;
+      losing : AreLosing (ceases_at l.node l.segments) (Some l.id) l.units l.self l.index l.made.items;
     }

@@ -1,8 +1,8 @@
 use Rattle.std.proofs.Common.{◌≡◌, cond, ◌&&◌, ◌==◌, Some, None, sym, subst, ap, ◌∙◌, arith}
 use Rattle.std.specs.FinSet as set_of
 use Rattle.std.specs.Prelude.{slice_get, slice_set}
-use Rattle.cluster_model.specs.State.{Unit, is_open_unit, is_running, with_loss}
-use Rattle.cluster_calls.specs.Calling.{Calling, is_one, with_installation}
+use Rattle.cluster_model.specs.State.{Calling, Unit, is_open_unit, is_running, with_loss}
+use Rattle.cluster_calls.specs.Calling.{is_one, with_installation}
 use Rattle.cluster_calls.specs.Parts.{booking_in}
 use Rattle.cluster_calls.proofs.CallsLaws.{read_unit, running_open}
 use Rattle.cluster_calls.proofs.ListLaws.{get_within}

@@ -2,8 +2,7 @@ use Rattle.std.proofs.Common.{◌≡◌, cond, ◌&&◌, ◌==◌, Some, None, s
 use Rattle.std.proofs.lemmas.Result.{IfOk-weaker}
 use Rattle.std.specs.FinSet as set_of
 use Rattle.std.specs.Prelude.{slice_get}
-use Rattle.cluster_model.specs.State.{Unit, is_running, with_loss}
-use Rattle.cluster_calls.specs.Calling.{Calling}
+use Rattle.cluster_model.specs.State.{Calling, Unit, is_running, with_loss}
 use Rattle.cluster_calls.specs.Parts.{booking_in}
 use Rattle.cluster_calls.proofs.CallsLaws.{read_unit}
 use Rattle.cluster_calls.proofs.ListLaws.{get_within}

@@ -1,8 +1,7 @@
 use Rattle.std.proofs.Common.{◌≡◌, cond, ◌&&◌, ◌==◌, Some, None, sym, subst, ap, ◌∙◌}
 use Rattle.std.proofs.lemmas.Result.{IfOk-weaker}
 use Rattle.std.specs.Prelude.{slice_get}
-use Rattle.cluster_model.specs.State.{Unit, is_open_unit, with_loss}
-use Rattle.cluster_calls.specs.Calling.{Calling}
+use Rattle.cluster_model.specs.State.{Calling, Unit, is_open_unit, with_loss}
 use Rattle.cluster_calls.specs.Parts.{booking_in}
 use Rattle.cluster_calls.proofs.CallsLaws.{read_unit}
 use Rattle.cluster_calls.proofs.calls.Calls.departure.Goals as goal

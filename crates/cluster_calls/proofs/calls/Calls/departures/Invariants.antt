@@ -1,10 +1,8 @@
-use Rattle.std.proofs.Common.{◌≡◌, map, take, length}
+use Rattle.std.proofs.Common.{◌≡◌, ◌-◌, map, take}
+use Rattle.std.specs.Prelude.{slice_get}
+use Rattle.cluster_calls.specs.Listed.{booking_of}
 use Rattle.cluster_calls.specs.Parts.{booking_departed}
 use Rattle.cluster_calls.proofs.calls.Calls.departures.Given as goal
 
-abbrev pub invariant-loop-place : goal.invariant-loop-place
-invariant-loop-place l =
-    record {
-      made : l.made.items ≡ map (booking_departed l.self l.node) (take l.place l.self.units);
-      count : l.count ≡ length l.self.units;
-    }
+abbrev pub invariant-loop-unit : goal.invariant-loop-unit
+invariant-loop-unit l = l.made.items ≡ map (λ number. booking_of (booking_departed l.self l.node) (slice_get l.self.units (number - 1))) (take l.unit-index l.units)

@@ -2,9 +2,9 @@ use Rattle.std.proofs.Common.{◌≡◌, true, Some, refl, sym, subst, ap, ◌�
 use Rattle.std.specs.FinMap as map_of
 use Rattle.std.specs.Prelude.{slice_get}
 use Rattle.local_publisher.specs.Units.{ended}
-use Rattle.cluster_model.specs.State.{Unit, is_ended, is_open_unit}
+use Rattle.cluster_model.specs.State.{Calling, Unit, is_ended, is_open_unit, unit_in}
 use Rattle.local_publisher.specs.Stages.{is_open}
-use Rattle.cluster_calls.specs.Calling.{Calling, changes_unit, is_one, unit_in, may_end}
+use Rattle.cluster_calls.specs.Calling.{changes_unit, is_one, may_end}
 use Rattle.cluster_calls.specs.Parts.{booking_in}
 use Rattle.cluster_calls.specs.Rows.{calls_in, changes_row, may_end_one, with_row_end}
 use Rattle.cluster_calls.proofs.CallsLaws.{changed_kept, changed_seen, nothing_flies, numbers, read_unit, may_end_is, may_end_it}
@@ -13,6 +13,10 @@ use Rattle.cluster_calls.proofs.PartLaws.{booking_row, pieced_closed}
 use Rattle.cluster_calls.proofs.PastLaws.{past_row, past_set}
 use Rattle.cluster_calls.proofs.RightLaws.{there, after_ended}
 use Rattle.cluster_calls.proofs.RowTables.{calls_in-same}
+use Rattle.std.specs.Prelude.{slice_set}
+use Rattle.loss_listener.specs.Registered.{Registered}
+use Rattle.cluster_calls.specs.Listed.{AreRegistered}
+use Rattle.cluster_calls.proofs.ListedLaws.{registered_closed}
 use Rattle.cluster_calls.proofs.calls.Calls.end_booked.Goals as goal
 
 pub index_mut-unit-requires : goal.index_mut-unit-requires
@@ -73,7 +77,7 @@ invariant_of-self c =
     let open_ : is_open_unit h.unit ≡ true = ap is_open state.running in
     let after : Unit = record h.unit { work = ended h.unit.work } in
     changed_kept c.self.inside c.self.invariant c.place_of-place.result h.unit after c.end.new.self
-    (changes_row h.unit.work.call (with_row_end h.unit.work.segment c.args.made) c.self.inside.table) c.end-2.new.self c.self.inside.read at
+    (changes_row h.unit.work.call (with_row_end h.unit.work.segment c.args.made) c.self.inside.table) c.end-2.new.self c.end-3.new.self c.self.inside.read at
     (c.end.ensures ∙ ap (λ (u : Unit). record u { work = ended u.work }) is)
     (c.end-2.ensures ∙ (λ k. changes_row (call k) (with_row_end (segment k) c.args.made) c.self.inside.table)) refl c.self.invariant.few
     (after_ended c.self.inside.segments units c.self.inside.table c.place_of-place.result h.unit after c.args.made c.self.invariant.right at (record { id = refl; call = refl; segment = refl })
@@ -86,6 +90,9 @@ invariant_of-self c =
     ∙ booking_row c.self.inside.segments units c.self.inside.table after row g))
     (past_set units (changes_row h.unit.work.call (with_row_end h.unit.work.segment c.args.made) c.self.inside.table) c.self.inside.past c.place_of-place.result h.unit after at refl (λ e. open_)
     (past_row units c.self.inside.table c.self.inside.past h.unit.work.call (with_row_end h.unit.work.segment c.args.made) (λ row over. over) c.self.invariant.past))
+    (subst (λ (m : Registered). AreRegistered (slice_set units c.place_of-place.result after) m) (sym c.end-3.ensures)
+    (registered_closed units c.self.inside.listeners c.place_of-place.result h.unit after c.id-id.result c.self.invariant.registered at
+    (c.id-id.ensures ∙ ap (λ (u : Unit). u.work.id) is ∙ (c.self.invariant.right.placed c.place_of-place.result h.unit at).id) refl))
 
 pub returns : goal.returns
 returns c =

@@ -1,5 +1,6 @@
 use Rattle.std.proofs.Common.{sym, ◌∙◌}
-use Rattle.cluster_calls.specs.Calling.{may_end, unit_in}
+use Rattle.cluster_model.specs.State.{unit_in}
+use Rattle.cluster_calls.specs.Calling.{may_end}
 use Rattle.cluster_calls.proofs.CallsLaws.{one_at}
 use Rattle.cluster_calls.proofs.ListLaws.{within_get}
 use Rattle.cluster_calls.proofs.PartQueries.{one_some}

@@ -6,13 +6,14 @@ use Rattle.cluster_model.specs.Units.{read_by}
 use Rattle.grid_base.specs.declared.entry.Entry.{Entry}
 use Rattle.local_publisher.specs.Stages.{is_open}
 use Rattle.local_publisher.specs.Units.{extended}
-use Rattle.cluster_model.specs.State.{Unit, is_running}
-use Rattle.cluster_calls.specs.Calling.{Calling, changes_unit, is_one, unit_in, may_read}
+use Rattle.cluster_model.specs.State.{Calling, Unit, is_running, unit_in}
+use Rattle.cluster_calls.specs.Calling.{changes_unit, is_one, may_read}
 use Rattle.cluster_calls.proofs.CallsLaws.{changed_kept, changed_seen, numbers, read_unit, may_read_is}
 use Rattle.cluster_calls.proofs.ListLaws.{within_get}
 use Rattle.cluster_calls.proofs.PartLaws.{began, pieced_open}
 use Rattle.cluster_calls.proofs.PastLaws.{past_set}
 use Rattle.cluster_calls.proofs.RightLaws.{there, after_same}
+use Rattle.cluster_calls.proofs.ListedLaws.{registered_same}
 use Rattle.cluster_calls.proofs.calls.Calls.fetch.Goals as goal
 
 pub index_mut-unit-requires : goal.index_mut-unit-requires
@@ -43,7 +44,7 @@ invariant_of-self-2 c =
     let after : Unit = record { work = extended h.unit.work c.args.batch; flying = Some c.args.batch.entries } in
     let more : c.len-more.result ≡ length c.args.batch.entries = c.len-more.ensures ∙ ap (λ (b : Portion Entry). length b.entries) c.batch.view_is in
     let few = subst (λ (x : Calling). read_by x.units + length c.args.batch.entries ≤ MOST_READ) (sym c.self.view_is) c.requires.few in
-    changed_kept c.self.inside c.self.invariant c.place_of-place.result h.unit after c.fetch.new.self c.self.inside.table c.self.inside.table (c.self.inside.read + c.len-more.result) at
+    changed_kept c.self.inside c.self.invariant c.place_of-place.result h.unit after c.fetch.new.self c.self.inside.table c.self.inside.table c.self.inside.listeners (c.self.inside.read + c.len-more.result) at
     (c.in_ok-fetch.ensures.ok ∙ ap (λ (u : Unit). record { work = extended u.work c.args.batch; flying = Some c.args.batch.entries }) is) refl
     (omega (arith, more, length-append h.unit.work.entries c.args.batch.entries)) (omega (arith, more, few, c.self.invariant.counted))
     (after_same c.self.inside.segments units c.self.inside.table c.place_of-place.result h.unit after c.self.invariant.right at (record { id = refl; call = refl; segment = refl })
@@ -51,6 +52,7 @@ invariant_of-self-2 c =
     (pieced_open c.self.inside.segments units c.self.inside.table c.place_of-place.result h.unit after c.self.invariant.pieced at (record { id = refl; call = refl; segment = refl })
     (ap is_open state.running) (ap is_open state.running) (began h.unit.work.state state.running))
     (past_set units c.self.inside.table c.self.inside.past c.place_of-place.result h.unit after at refl (λ e. ap is_open state.running) c.self.invariant.past)
+    (registered_same units c.self.inside.listeners c.place_of-place.result h.unit after c.self.invariant.registered at refl)
 
 pub returns-clause-ok : goal.returns-clause-ok
 returns-clause-ok c =

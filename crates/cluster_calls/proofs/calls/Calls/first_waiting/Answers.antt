@@ -1,8 +1,8 @@
 use Rattle.std.proofs.Common.{List, refl, sym, ap, subst, ◌∙◌}
 use Rattle.std.proofs.lemmas.Option.{slice_get_read}
 use Rattle.std.specs.Prelude.{slice_get}
-use Rattle.cluster_model.specs.State.{Unit}
-use Rattle.cluster_calls.specs.Calling.{Calling, NoneWaits}
+use Rattle.cluster_model.specs.State.{Calling, Unit}
+use Rattle.cluster_calls.specs.Calling.{NoneWaits}
 use Rattle.cluster_calls.proofs.PastLaws.{none_waits}
 use Rattle.cluster_calls.proofs.PastQueries.{none_more}
 use Rattle.cluster_calls.proofs.calls.Calls.first_waiting.Goals as goal

@@ -1,6 +1,6 @@
 use Rattle.std.proofs.Common.{◌==◌, not, sym, ap, ◌∙◌}
-use Rattle.cluster_model.specs.State.{is_of, is_open_unit}
-use Rattle.cluster_calls.specs.Calling.{Calling, any_open}
+use Rattle.cluster_model.specs.State.{Calling, is_of, is_open_unit}
+use Rattle.cluster_model.specs.Calls.{any_open}
 use Rattle.cluster_calls.proofs.ListLaws.{any_none, length-filter}
 use Rattle.cluster_calls.proofs.QueryLaws.{any_counted}
 use Rattle.cluster_calls.proofs.RightLaws.{and_none}

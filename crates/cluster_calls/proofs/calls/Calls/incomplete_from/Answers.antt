@@ -1,6 +1,6 @@
 use Rattle.std.proofs.Common.{◌<◌, Some, sym, ap, ◌∙◌, arith}
 use Rattle.cluster_model.specs.Topologies.{is_complete}
-use Rattle.cluster_calls.specs.Calling.{Calling}
+use Rattle.cluster_model.specs.State.{Calling}
 use Rattle.cluster_calls.proofs.QueryLaws.{first_here, first_later, first_none}
 use Rattle.cluster_calls.proofs.calls.Calls.incomplete_from.Goals as goal
 

@@ -1,8 +1,9 @@
 use Rattle.std.proofs.Common.{◌≡◌, None, sym, subst, ap, ◌∙◌}
 use Rattle.std.specs.FinMap as map_of
 use Rattle.std.specs.Ordering.{nat_cmp}
-use Rattle.cluster_model.specs.State.{Call}
-use Rattle.cluster_calls.specs.Calling.{Calling, call_in, new_call, puts_call}
+use Rattle.cluster_model.specs.State.{Call, Calling, call_of}
+use Rattle.cluster_model.specs.Calls.{new_call}
+use Rattle.cluster_calls.specs.Calling.{puts_call}
 use Rattle.cluster_calls.specs.Insides.{IsCalls, calling_of}
 use Rattle.cluster_calls.specs.Parts.{made_parts}
 use Rattle.cluster_calls.specs.Rows.{Rows, calls_in}
@@ -24,7 +25,7 @@ invariant_of-self-2 c =
     let table : c.insert.new.self ≡ map_of.insert rows n made =
     c.in_ok-insert.ensures.ok ∙ (λ i. map_of.insert rows n (record { call = c.in_ok-call.ensures i; tally = c.in_ok-tally.ensures i; parts = c.in_ok-parts.ensures i })) in
     let absent : map_of.get rows n ≡ None =
-    none_mapped (λ (r : Row). r.call) (map_of.get rows n) (sym (get-calls_in rows n) ∙ ap (λ (x : Calling). call_in x n) c.self.view_is ∙ c.requires) in
+    none_mapped (λ (r : Row). r.call) (map_of.get rows n) (sym (get-calls_in rows n) ∙ ap (λ (x : Calling). call_of x n) c.self.view_is ∙ c.requires) in
     subst (λ (t : Rows). IsCalls (record c.self.inside { table = t })) (sym table)
     (rows_kept c.self.inside c.self.invariant (map_of.insert rows n made)
     (after_invoke c.self.inside.segments c.self.inside.units.items rows n c.args.originator c.args.request made.parts c.self.invariant.right absent)

@@ -1,6 +1,6 @@
 use Rattle.std.proofs.Common.{sym, ap, ◌∙◌, arith}
 use Rattle.cluster_model.specs.Topologies.{is_complete}
-use Rattle.cluster_calls.specs.Calling.{Calling}
+use Rattle.cluster_model.specs.State.{Calling}
 use Rattle.cluster_calls.proofs.QueryLaws.{none_complete, past_complete}
 use Rattle.cluster_calls.proofs.calls.Calls.is_complete.Goals as goal
 

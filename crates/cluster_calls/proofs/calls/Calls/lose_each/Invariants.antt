@@ -1,16 +1,13 @@
-use Rattle.std.proofs.Common.{◌≡◌, ◌≤◌, ℕ, ◌++◌, map, take, drop, length}
-use Rattle.std.specs.Prelude.{slice_get}
-use Rattle.cluster_calls.specs.Calling.{with_departure}
-use Rattle.cluster_calls.specs.Parts.{booking_departed}
+-- Nothing but units has changed; to lose all that leave comes to the same as before; and this is still to be lost.
+use Rattle.std.proofs.Common.{◌≡◌, None, map}
+use Rattle.cluster_calls.specs.Listed.{leaves}
+use Rattle.cluster_calls.proofs.LosingLaws.{AreLosing, lost_where}
 use Rattle.cluster_calls.proofs.calls.Calls.lose_each.Given as goal
 
-abbrev pub invariant-loop-place : goal.invariant-loop-place
-invariant-loop-place l =
+abbrev pub invariant-loop-index : goal.invariant-loop-index
+invariant-loop-index l =
     record {
       rest : l.self ≡ record l.initial.self { units = l.self.units };
-      units : l.self.units ≡ map (with_departure l.node) (take l.place l.initial.self.units) ++ drop l.place l.initial.self.units;
-      long : length l.self.units ≡ length l.initial.self.units;
-      count : l.count ≡ length l.initial.self.units;
-      wide : length l.made.items ≡ length l.initial.self.units;
-      made : (j : ℕ) → l.place ≤ j → slice_get l.made.items j ≡ slice_get (map (booking_departed l.initial.self l.node) l.initial.self.units) j;
+      units : map (lost_where (leaves l.node) None) l.self.units ≡ map (lost_where (leaves l.node) None) l.initial.self.units;
+      losing : AreLosing (leaves l.node) None l.units l.self l.index l.made.items;
     }

@@ -1,7 +1,8 @@
 use Rattle.std.proofs.Common.{◌≡◌, cond, ◌&&◌, ◌==◌, Some, None, sym, subst, ap, ◌∙◌}
 use Rattle.std.specs.Prelude.{slice_get, slice_set}
-use Rattle.cluster_model.specs.State.{Unit, is_open_unit, with_loss}
-use Rattle.cluster_calls.specs.Calling.{Calling, is_one, with_departure}
+use Rattle.cluster_model.specs.Topologies.{with_departure}
+use Rattle.cluster_model.specs.State.{Calling, Unit, is_open_unit, with_loss}
+use Rattle.cluster_calls.specs.Calling.{is_one}
 use Rattle.cluster_calls.specs.Parts.{booking_in}
 use Rattle.cluster_calls.proofs.CallsLaws.{read_unit}
 use Rattle.cluster_calls.proofs.ListLaws.{get_within}

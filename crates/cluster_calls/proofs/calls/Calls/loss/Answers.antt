@@ -3,8 +3,7 @@ use Rattle.std.proofs.lemmas.Result.{IfOk-weaker}
 use Rattle.std.specs.Prelude.{slice_get}
 use Rattle.delivery_mode.specs.Guarantee.{keeps_lost}
 use Rattle.grid_event.specs.declared.request.Request.{Request}
-use Rattle.cluster_model.specs.State.{Unit}
-use Rattle.cluster_calls.specs.Calling.{Calling, call_in}
+use Rattle.cluster_model.specs.State.{Calling, Unit, call_of}
 use Rattle.cluster_calls.proofs.CallsLaws.{read_unit}
 use Rattle.cluster_calls.proofs.PartQueries.{lost_booking}
 use Rattle.cluster_calls.proofs.calls.Calls.loss.Goals as goal
@@ -16,6 +15,6 @@ returns c =
     let at : slice_get units c.args.place ≡ Some u = subst (λ (x : Calling). slice_get x.units c.args.place ≡ Some u) (sym c.self.view_is) g in
     let call = c.call.ensures ∙ ap (λ (w : Unit). w.work.call) (read_unit units c.args.place u c.index-unit.result.now at c.index-unit.ensures) in
     is u g
-    ∙ lost_booking c.args.self.now u c.args.at c.in-Some.call.now (ap (call_in c.args.self.now) (sym call) ∙ sym c.in-Some.ensures)
+    ∙ lost_booking c.args.self.now u c.args.at c.in-Some.call.now (ap (call_of c.args.self.now) (sym call) ∙ sym c.in-Some.ensures)
     (sym (c.keeps_lost.ensures ∙ ap (λ (r : Request). keeps_lost r.guarantee) c.request.ensures) ∙ c.if-not-keeps_lost.false))
     c.booking.ensures

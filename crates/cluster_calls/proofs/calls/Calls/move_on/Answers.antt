@@ -1,5 +1,6 @@
 use Rattle.std.proofs.Common.{◌≤◌, length, sym, subst}
-use Rattle.cluster_calls.specs.Calling.{Calling, NoneWaits}
+use Rattle.cluster_model.specs.State.{Calling}
+use Rattle.cluster_calls.specs.Calling.{NoneWaits}
 use Rattle.cluster_calls.proofs.PastLaws.{may_pass}
 use Rattle.cluster_calls.proofs.calls.Calls.move_on.Goals as goal
 
@@ -10,6 +11,7 @@ invariant_of-self c =
       few_segments = c.self.invariant.few_segments;
       right = c.self.invariant.right;
       pieced = c.self.invariant.pieced;
+      registered = c.self.invariant.registered;
       numbered = c.self.invariant.numbered;
       counted = c.self.invariant.counted;
       few = c.self.invariant.few;

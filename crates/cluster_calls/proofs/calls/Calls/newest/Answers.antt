@@ -1,6 +1,6 @@
 use Rattle.std.proofs.Common.{◌≡◌, ◌==◌, sym, ap, ◌∙◌, arith}
-use Rattle.cluster_model.specs.State.{is_of, is_on}
-use Rattle.cluster_calls.specs.Calling.{Calling, newest_in, unit_in}
+use Rattle.cluster_model.specs.State.{Calling, is_of, is_on, unit_in}
+use Rattle.cluster_model.specs.Commands.{newest_in}
 use Rattle.cluster_calls.specs.Tallies.{number_of}
 use Rattle.cluster_calls.proofs.CallsLaws.{numbers}
 use Rattle.cluster_calls.proofs.ListLaws.{same_some}

@@ -4,9 +4,8 @@ use Rattle.std.specs.FinMap.{nat_cmp-IsAntisymmetric}
 use Rattle.std.specs.Cmp.{nat_cmp_total}
 use Rattle.std.specs.Option.{option_map}
 use Rattle.std.specs.Ordering.{nat_cmp}
-use Rattle.cluster_model.specs.State.{Call}
+use Rattle.cluster_model.specs.State.{Call, Calling}
 use Rattle.cluster_model.specs.Topologies.{each_call, notes_losses}
-use Rattle.cluster_calls.specs.Calling.{Calling}
 use Rattle.cluster_calls.specs.Insides.{IsCalls, calling_of}
 use Rattle.cluster_calls.specs.Parts.{HasParts}
 use Rattle.cluster_calls.specs.Rows.{Rows, calls_in, each_row, notes}

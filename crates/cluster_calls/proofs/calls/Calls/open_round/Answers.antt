@@ -3,8 +3,8 @@ use Rattle.std.proofs.lemmas.List.{take_rest}
 use Rattle.std.specs.Prelude.{slice_get}
 use Rattle.local_publisher.specs.Work.{Work}
 use Rattle.cluster_model.specs.Commands.{is_unanswered}
-use Rattle.cluster_model.specs.State.{Call, is_open_unit}
-use Rattle.cluster_calls.specs.Calling.{Calling, call_in, round_units}
+use Rattle.cluster_model.specs.State.{Call, Calling, call_of, is_open_unit}
+use Rattle.cluster_calls.specs.Calling.{round_units}
 use Rattle.cluster_calls.proofs.PastLaws.{filter-drop}
 use Rattle.cluster_calls.proofs.PastQueries.{round_past}
 use Rattle.cluster_calls.proofs.calls.Calls.open_round.Goals as goal
@@ -17,7 +17,7 @@ returns c = λ open_.
     ap (filter is_open_unit) (take_rest round c.min.result)
     ∙ filter-drop is_open_unit c.min.result round (λ i u at low.
     round_past c.self.inside c.self.invariant c.args.number round c.in-Some.first.now
-    (subst (λ (x : Calling). is_unanswered (call_in x c.args.number) ≡ true) (sym c.self.view_is) open_)
-    (subst (λ (x : Calling). (call : Call) → call_in x c.args.number ≡ Some call → round ≡ round_units x.units call) (sym c.self.view_is) c.last_round-round.ensures.units)
+    (subst (λ (x : Calling). is_unanswered (call_of x c.args.number) ≡ true) (sym c.self.view_is) open_)
+    (subst (λ (x : Calling). (call : Call) → call_of x c.args.number ≡ Some call → round ≡ round_units x.units call) (sym c.self.view_is) c.last_round-round.ensures.units)
     head i u at (omega (arith, low, c.min.ensures, c.saturating_sub-before.ensures, id)))
     ∙ c.last_round-round.ensures.unended

@@ -1,5 +1,5 @@
 use Rattle.std.proofs.Common.{sym, ap, ◌∙◌, arith}
-use Rattle.cluster_calls.specs.Calling.{Calling}
+use Rattle.cluster_model.specs.State.{Calling}
 use Rattle.cluster_calls.specs.Parts.{part_in}
 use Rattle.cluster_calls.proofs.PartQueries.{absent_part, none_part, past_part, some_part}
 use Rattle.cluster_calls.proofs.calls.Calls.part.Goals as goal

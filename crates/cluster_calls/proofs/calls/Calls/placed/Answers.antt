@@ -1,6 +1,6 @@
 use Rattle.std.proofs.Common.{◌≡◌, true, is_some, sym, subst, ap, ◌∙◌}
 use Rattle.std.specs.Prelude.{slice_get}
-use Rattle.cluster_calls.specs.Calling.{Calling, unit_in}
+use Rattle.cluster_model.specs.State.{Calling, unit_in}
 use Rattle.cluster_calls.proofs.CallsLaws.{numbers}
 use Rattle.cluster_calls.proofs.PartQueries.{some_one}
 use Rattle.cluster_calls.proofs.RightLaws.{there}

@@ -3,8 +3,8 @@ use Rattle.std.specs.Option.{option_map}
 use Rattle.std.specs.FinMap as map_of
 use Rattle.std.specs.Prelude.{slice_get, slice_set}
 use Rattle.local_publisher.specs.Stages.{is_open}
-use Rattle.cluster_model.specs.State.{Unit, with_unit}
-use Rattle.cluster_calls.specs.Calling.{Calling, call_in, flies, is_one, taking_of, unit_in, with_call, with_taken}
+use Rattle.cluster_model.specs.State.{Calling, Unit, call_of, unit_in, with_unit}
+use Rattle.cluster_calls.specs.Calling.{flies, is_one, taking_of, with_call, with_taken}
 use Rattle.cluster_calls.specs.Insides.{calling_of}
 use Rattle.cluster_calls.specs.Rows.{calls_in, changes_row, with_row_taken}
 use Rattle.cluster_calls.specs.declared.row.Row.{Row}
@@ -14,6 +14,7 @@ use Rattle.cluster_calls.proofs.PartLaws.{began, pieced_call, pieced_open, same_
 use Rattle.cluster_calls.proofs.PastLaws.{past_row, past_set}
 use Rattle.cluster_calls.proofs.RightLaws.{after_call, after_same, there, with_unit-there}
 use Rattle.cluster_calls.proofs.RowTables.{calls_in-changed, get-calls_in}
+use Rattle.cluster_calls.proofs.ListedLaws.{registered_same}
 use Rattle.cluster_calls.proofs.calls.Calls.take.Goals as goal
 
 pub index-read-requires : goal.index-read-requires
@@ -43,7 +44,7 @@ take-requires c = λ row e.
     let call = c.call-call.ensures ∙ ap (λ (u : Unit). u.work.call) lent in
     c.requires.given h.unit row.call
     (subst (λ (x : Calling). unit_in x.units c.args.unit ≡ Some h.unit) c.self.view_is h.found)
-    (subst (λ (x : Calling). call_in x h.unit.work.call ≡ Some row.call) c.self.view_is
+    (subst (λ (x : Calling). call_of x h.unit.work.call ≡ Some row.call) c.self.view_is
     (get-calls_in table h.unit.work.call ∙ ap (option_map (λ (r : Row). r.call)) (ap (map_of.get table) (sym call) ∙ e)))
 
 pub invariant_of-self-2 : goal.invariant_of-self-2
@@ -62,7 +63,7 @@ invariant_of-self-2 c =
     c.in_ok-take.ensures.ok ∙ (λ k. changes_row (call k) (with_row_taken (segment k) entries c.args.given) c.self.inside.table) in
     let after : Unit = record h.unit { flying = None } in
     let runs = running_is h.unit.work.state ((c.self.invariant.right.placed c.place_of-place.result h.unit at).running h.passes) in
-    changed_kept c.self.inside c.self.invariant c.place_of-place.result h.unit after c.land.new.self (changes_row h.unit.work.call change c.self.inside.table) c.take.new.self c.self.inside.read at
+    changed_kept c.self.inside c.self.invariant c.place_of-place.result h.unit after c.land.new.self (changes_row h.unit.work.call change c.self.inside.table) c.take.new.self c.self.inside.listeners c.self.inside.read at
     (c.land.ensures ∙ ap (λ (u : Unit). record u { flying = None }) is) table refl c.self.invariant.few
     (after_same c.self.inside.segments units (changes_row h.unit.work.call change c.self.inside.table) c.place_of-place.result h.unit after
     (after_call c.self.inside.segments units c.self.inside.table h.unit.work.call change (λ row. refl) (λ row. refl) c.self.invariant.right) at
@@ -73,6 +74,7 @@ invariant_of-self-2 c =
     (record { id = refl; call = refl; segment = refl }) (ap is_open runs) (ap is_open runs) (began h.unit.work.state runs))
     (past_set units (changes_row h.unit.work.call change c.self.inside.table) c.self.inside.past c.place_of-place.result h.unit after at refl (λ e. ap is_open runs)
     (past_row units c.self.inside.table c.self.inside.past h.unit.work.call change (λ row over. over) c.self.invariant.past))
+    (registered_same units c.self.inside.listeners c.place_of-place.result h.unit after c.self.invariant.registered at refl)
 
 pub returns-clause-ok : goal.returns-clause-ok
 returns-clause-ok c =

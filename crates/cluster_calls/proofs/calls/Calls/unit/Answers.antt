@@ -1,6 +1,6 @@
 use Rattle.std.proofs.Common.{◌≡◌, ◌≤◌, ◌-◌, sym, subst, ap, ◌∙◌, arith}
 use Rattle.std.specs.Prelude.{slice_get}
-use Rattle.cluster_calls.specs.Calling.{Calling, unit_in}
+use Rattle.cluster_model.specs.State.{Calling, unit_in}
 use Rattle.cluster_calls.proofs.CallsLaws.{IsFoundWithin, found_within, numbers}
 use Rattle.cluster_calls.proofs.QueryLaws.{find_unit, find_zero, looked}
 use Rattle.cluster_calls.proofs.calls.Calls.unit.Goals as goal

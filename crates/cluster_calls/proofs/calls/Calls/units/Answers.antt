@@ -1,5 +1,6 @@
 use Rattle.std.proofs.Common.{subst}
-use Rattle.cluster_calls.specs.Calling.{AreNumbered, Calling}
+use Rattle.cluster_model.specs.State.{Calling}
+use Rattle.cluster_calls.specs.Calling.{AreNumbered}
 use Rattle.cluster_calls.proofs.CallsLaws.{numbers}
 use Rattle.cluster_calls.proofs.calls.Calls.units.Goals as goal
 

@@ -1,6 +1,7 @@
 use Rattle.std.proofs.Common.{drop, ap, subst, ◌∙◌}
 use Rattle.std.proofs.lemmas.List.{take_rest}
-use Rattle.cluster_calls.specs.Calling.{Calling, NoneWaits}
+use Rattle.cluster_model.specs.State.{Calling}
+use Rattle.cluster_calls.specs.Calling.{NoneWaits}
 use Rattle.cluster_calls.proofs.PastLaws.{none_waits}
 use Rattle.cluster_calls.proofs.calls.Calls.waiting.Goals as goal
 

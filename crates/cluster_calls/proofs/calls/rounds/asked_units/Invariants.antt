@@ -1,5 +1,5 @@
 use Rattle.std.proofs.Common.{◌≡◌, map, take}
-use Rattle.cluster_calls.specs.Calling.{unit_made}
+use Rattle.cluster_model.specs.Calls.{unit_made}
 use Rattle.cluster_calls.proofs.calls.rounds.asked_units.Given as goal
 
 abbrev pub invariant-loop-ask : goal.invariant-loop-ask

@@ -11,12 +11,12 @@ use Rattle.cluster_core.proofs.cluster.Core.allows.Goals as goal
 pub returns-in-Write : goal.returns-in-Write
 returns-in-Write c =
     let st = c.args.self.now in
-    c.can_write.ensures ∙ write_told c.self.inside st c.self.view_is c.get.result.now ∙ ap (can_write st) c.get.ensures ∙ ap (allowed st) (sym c.in-Write.is)
+    c.can_write.ensures ∙ write_told c.self.inside st c.self.view_is c.get.result.now ∙ ap (can_write st.holding) c.get.ensures ∙ ap (allowed st) (sym c.in-Write.is)
 
 pub returns-in-Erase : goal.returns-in-Erase
 returns-in-Erase c =
     let st = c.args.self.now in
-    c.can_erase.ensures ∙ erase_told c.self.inside st c.self.view_is c.get-in-Erase.result.now ∙ ap (can_erase st) c.get-in-Erase.ensures ∙ ap (allowed st) (sym c.in-Erase.is)
+    c.can_erase.ensures ∙ erase_told c.self.inside st c.self.view_is c.get-in-Erase.result.now ∙ ap (can_erase st.holding) c.get-in-Erase.ensures ∙ ap (allowed st) (sym c.in-Erase.is)
 
 pub returns-in-Tick : goal.returns-in-Tick
 returns-in-Tick c =
@@ -47,10 +47,10 @@ pub returns-in-Announce : goal.returns-in-Announce
 returns-in-Announce c =
     let st = c.args.self.now in
     subst (λ (b : Bool). IfOk c.can_announce.result (λ may. may ≡ b))
-    (announce_told c.self.inside st c.self.view_is c.get-in-Announce.result.now ∙ ap (can_announce st) c.get-in-Announce.ensures ∙ ap (allowed st) (sym c.in-Announce.is)) c.can_announce.ensures
+    (announce_told c.self.inside st c.self.view_is c.get-in-Announce.result.now ∙ ap (can_announce st.holding) c.get-in-Announce.ensures ∙ ap (allowed st) (sym c.in-Announce.is)) c.can_announce.ensures
 
 pub returns-in-Copy : goal.returns-in-Copy
 returns-in-Copy c =
     let st = c.args.self.now in
     subst (λ (b : Bool). IfOk c.can_copy.result (λ may. may ≡ b))
-    (copy_told c.self.inside st c.self.view_is c.get-in-Copy.result.now ∙ ap (can_copy st) c.get-in-Copy.ensures ∙ ap (allowed st) (sym c.in-Copy.is)) c.can_copy.ensures
+    (copy_told c.self.inside st c.self.view_is c.get-in-Copy.result.now ∙ ap (can_copy st.holding) c.get-in-Copy.ensures ∙ ap (allowed st) (sym c.in-Copy.is)) c.can_copy.ensures

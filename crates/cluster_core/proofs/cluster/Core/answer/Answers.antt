@@ -2,8 +2,8 @@
 use Rattle.std.proofs.Common.{Some, ap, ◌∙◌}
 use Rattle.grid_event.specs.declared.event.Event.TheVariants as events
 use Rattle.grid_event.specs.declared.outcome.Outcome.{Outcome}
-use Rattle.cluster_calls.specs.Calling.{Calling, changes_call}
-use Rattle.cluster_model.specs.State.{Call}
+use Rattle.cluster_calls.specs.Calling.{changes_call}
+use Rattle.cluster_model.specs.State.{Call, Calling}
 use Rattle.cluster_core.proofs.AnswerRows.{answer_seen}
 use Rattle.cluster_core.proofs.Rows.{core_next}
 use Rattle.cluster_core.proofs.cluster.Core.answer.Goals as goal

@@ -12,16 +12,16 @@ unreachable-requires c = begin_none c.args.self.now c.args.number c.args.runs (s
 
 pub begin-requires : goal.begin-requires
 begin-requires c =
-    ap (λ (st : State). is_one (may_begin c.installed_id-at.result) (unit_of st c.args.number)) c.self.view_is
+    ap (λ (st : State). is_one (may_begin c.installed_id-at.result) (unit_of st.calling c.args.number)) c.self.view_is
     ∙ begin_may c.args.self.now c.args.number c.args.runs c.in-Some.unit.now c.installed_id-at.result (sym c.in-Some.ensures)
-    (c.installed_id-at.ensures ∙ ap (λ n. installed_id c.args.self.now.coord n) c.node.ensures) c.requires
+    (c.installed_id-at.ensures ∙ ap (λ n. installed_id c.args.self.now.holding.coord n) c.node.ensures) c.requires
 
 pub invariant_of-self : goal.invariant_of-self
 invariant_of-self c =
     (begin_row c.self.inside c.args.self.now c.begin.new.self c.args.number c.args.runs c.in-Some.unit.now c.installed_id-at.result c.self.invariant c.self.view_is (sym c.in-Some.ensures)
-    (c.installed_id-at.ensures ∙ ap (λ n. installed_id c.args.self.now.coord n) c.node.ensures) c.requires c.begin.ensures).core
+    (c.installed_id-at.ensures ∙ ap (λ n. installed_id c.args.self.now.holding.coord n) c.node.ensures) c.requires c.begin.ensures).core
 
 pub returns : goal.returns
 returns c =
     (begin_row c.self.inside c.args.self.now c.begin.new.self c.args.number c.args.runs c.in-Some.unit.now c.installed_id-at.result c.self.invariant c.self.view_is (sym c.in-Some.ensures)
-    (c.installed_id-at.ensures ∙ ap (λ n. installed_id c.args.self.now.coord n) c.node.ensures) c.requires c.begin.ensures).seen
+    (c.installed_id-at.ensures ∙ ap (λ n. installed_id c.args.self.now.holding.coord n) c.node.ensures) c.requires c.begin.ensures).seen

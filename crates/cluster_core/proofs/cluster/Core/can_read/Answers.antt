@@ -14,7 +14,7 @@ next_batch-requires-clause-there c = found_itself c.args.self.now c.args.number 
 pub returns-then-not-same_batch : goal.returns-then-not-same_batch
 returns-then-not-same_batch c =
     read_when c.args.self.now c.args.walk c.args.batch.now c.in_ok-next.next c.args.number (length c.args.batch.now.entries) c.in-Some.unit.now
-    false (nat_le (read_by c.args.self.now.units + length c.args.batch.now.entries) MOST_READ)
+    false (nat_le (read_by c.args.self.now.calling.units + length c.args.batch.now.entries) MOST_READ)
     c.in-Some.ensures c.if-not-reads_on.ensures c.in_ok-next.ensures c.if-not-same_batch.ensures refl refl
 
 pub returns : goal.returns

@@ -10,7 +10,7 @@ use Rattle.cluster_core.proofs.UnitRows.{end_row}
 use Rattle.cluster_core.proofs.cluster.Core.end_with.Goals as goal
 
 pub end_with-requires-clause-may : goal.end_with-requires-clause-may
-end_with-requires-clause-may c = ap (λ (st : State). is_one may_end (unit_of st c.args.number)) c.self.view_is ∙ end_may c.args.self.now c.args.number c.requires.may
+end_with-requires-clause-may c = ap (λ (st : State). is_one may_end (unit_of st.calling c.args.number)) c.self.view_is ∙ end_may c.args.self.now c.args.number c.requires.may
 
 pub end_with-requires-clause-piece : goal.end_with-requires-clause-piece
 end_with-requires-clause-piece c =

@@ -12,12 +12,12 @@ use Rattle.cluster_core.proofs.cluster.Core.fetch.Goals as goal
 
 pub fetch-requires-clause-may : goal.fetch-requires-clause-may
 fetch-requires-clause-may c =
-    ap (λ (st : State). is_one may_read (unit_of st c.args.fetch.now.unit)) c.self.view_is ∙ (fetch_may c.args.self.now c.args.fetch.now c.requires).may
+    ap (λ (st : State). is_one may_read (unit_of st.calling c.args.fetch.now.unit)) c.self.view_is ∙ (fetch_may c.args.self.now c.args.fetch.now c.requires).may
 
 pub fetch-requires-clause-few : goal.fetch-requires-clause-few
 fetch-requires-clause-few c =
     let few = (fetch_may c.args.self.now c.args.fetch.now c.requires).few in
-    let units : read_by c.self.inside.calls.units ≡ read_by c.args.self.now.units = ap (λ (st : State). read_by st.units) c.self.view_is in
+    let units : read_by c.self.inside.calls.units ≡ read_by c.args.self.now.calling.units = ap (λ (st : State). read_by st.calling.units) c.self.view_is in
     let batch = ap (λ (b : Portion Entry). length b.entries) c.in_ok-batch.ensures in
     omega (arith, few, units, batch)
 

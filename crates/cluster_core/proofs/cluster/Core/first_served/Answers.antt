@@ -13,6 +13,6 @@ pub served_event-requires : goal.served_event-requires
 served_event-requires c =
     record {
       there =
-          unit_found c.args.self.now.units (core_numbered c.self.inside c.args.self.now c.self.invariant c.self.view_is) c.waiting-units.ensures.skipped c.waiting-units.result.now
-          (c.waiting-units.ensures.rest ∙ ap (λ (s : State). drop c.waiting-units.ensures.skipped s.units) c.self.view_is) c.loop-unit.unit-index c.unit-item.result c.loop-unit-test.true c.unit-item.is;
+          unit_found c.args.self.now.calling.units (core_numbered c.self.inside c.args.self.now c.self.invariant c.self.view_is) c.waiting-units.ensures.skipped c.waiting-units.result.now
+          (c.waiting-units.ensures.rest ∙ ap (λ (s : State). drop c.waiting-units.ensures.skipped s.calling.units) c.self.view_is) c.loop-unit.unit-index c.unit-item.result c.loop-unit-test.true c.unit-item.is;
     }

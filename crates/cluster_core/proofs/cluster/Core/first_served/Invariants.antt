@@ -7,4 +7,4 @@ use Rattle.cluster_core.proofs.cluster.Core.first_served.Given as goal
 abbrev pub invariant-loop-unit : goal.invariant-loop-unit
 invariant-loop-unit l =
     first_some (served_event l.self) (filter (λ (unit : Unit). is_open_unit unit && (unit.work.node == l.node)) (drop l.unit-index l.units))
-    ≡ first_some (served_event l.self) (units_at l.self l.node)
+    ≡ first_some (served_event l.self) (units_at l.self.calling l.node)

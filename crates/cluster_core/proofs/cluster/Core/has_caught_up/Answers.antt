@@ -9,6 +9,6 @@ pub returns : goal.returns
 returns c =
     let st = c.args.self.now in
     let call = c.args.call.now in
-    c.has_caught_up.ensures call (ap (λ (x : State). call_of x c.args.number) c.self.view_is ∙ c.requires)
-    ∙ ap (λ (x : State). caught_up x.units call c.installed_id.result) c.self.view_is
-    ∙ ap (caught_up st.units call) (c.installed_id.ensures ∙ ap (installed_id st.coord) c.originator.ensures)
+    c.has_caught_up.ensures call (ap (λ (x : State). call_of x.calling c.args.number) c.self.view_is ∙ c.requires)
+    ∙ ap (λ (x : State). caught_up x.calling.units call c.installed_id.result) c.self.view_is
+    ∙ ap (caught_up st.calling.units call) (c.installed_id.ensures ∙ ap (installed_id st.holding.coord) c.originator.ensures)

@@ -5,4 +5,4 @@ use Rattle.cluster_model.specs.State.{State}
 use Rattle.cluster_core.proofs.cluster.Core.has_open.Goals as goal
 
 pub returns : goal.returns
-returns c = c.has_open.ensures ∙ ap (λ (st : State). has_open st c.args.number) c.self.view_is
+returns c = c.has_open.ensures ∙ ap (λ (st : State). has_open st.calling c.args.number) c.self.view_is

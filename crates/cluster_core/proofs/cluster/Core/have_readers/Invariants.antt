@@ -8,5 +8,5 @@ use Rattle.cluster_core.proofs.cluster.Core.have_readers.Given as goal
 
 abbrev pub invariant-loop-place : goal.invariant-loop-place
 invariant-loop-place l =
-    list_all (has_reader l.self l.originator) (rest_of l.self l.number l.place)
-    ≡ list_all (has_reader l.self l.originator) (incomplete l.self l.number)
+    list_all (has_reader l.self.holding l.originator) (rest_of l.self l.number l.place)
+    ≡ list_all (has_reader l.self.holding l.originator) (incomplete l.self.calling l.number)

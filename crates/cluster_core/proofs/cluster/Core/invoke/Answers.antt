@@ -2,14 +2,15 @@
 use Rattle.std.proofs.Common.{ap, ◌∙◌}
 use Rattle.grid_event.specs.declared.event.Event.TheVariants as events
 use Rattle.grid_event.specs.declared.request.Request.{Request}
-use Rattle.cluster_calls.specs.Calling.{Calling, new_call, puts_call}
-use Rattle.cluster_model.specs.State.{State, call_of}
+use Rattle.cluster_model.specs.Calls.{new_call}
+use Rattle.cluster_calls.specs.Calling.{puts_call}
+use Rattle.cluster_model.specs.State.{Calling, State, call_of}
 use Rattle.cluster_core.proofs.RoundRows.{invoke_fresh, invoke_seen}
 use Rattle.cluster_core.proofs.Rows.{core_next}
 use Rattle.cluster_core.proofs.cluster.Core.invoke.Goals as goal
 
 pub invoke-requires : goal.invoke-requires
-invoke-requires c = ap (λ (st : State). call_of st c.args.invoke.now.call) c.self.view_is ∙ invoke_fresh c.args.self.now c.args.invoke.now c.requires
+invoke-requires c = ap (λ (st : State). call_of st.calling c.args.invoke.now.call) c.self.view_is ∙ invoke_fresh c.args.self.now c.args.invoke.now c.requires
 
 pub invariant_of-self-2 : goal.invariant_of-self-2
 invariant_of-self-2 c =

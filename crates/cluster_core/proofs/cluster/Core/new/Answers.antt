@@ -1,5 +1,5 @@
 -- The start is reached by no event.
-use Rattle.cluster_laws.proofs.CauseRuns.{few_segments}
+use Rattle.cluster_laws.proofs.causes.CauseRuns.{few_segments}
 use Rattle.cluster_core.proofs.StoreRows.{first_core, first_seen}
 use Rattle.cluster_core.proofs.cluster.Core.new.Goals as goal
 

@@ -9,16 +9,16 @@ use Rattle.cluster_core.proofs.cluster.Core.open_event.Goals as goal
 pub loop-unit-init : goal.loop-unit-init
 loop-unit-init c =
     let st = c.args.self.now in
-    let open_ = subst (λ (s : State). is_unanswered (call_of s c.args.number) ≡ true) (sym c.self.view_is) c.requires in
+    let open_ = subst (λ (s : State). is_unanswered (call_of s.calling c.args.number) ≡ true) (sym c.self.view_is) c.requires in
     ap (first_some (unit_event st)) (c.open_round-units.ensures open_ ∙ core_opens c.self.inside st c.args.number c.self.invariant c.self.view_is)
 
 pub unit_event-requires : goal.unit_event-requires
 unit_event-requires c =
     let st = c.args.self.now in
-    let open_ = subst (λ (s : State). is_unanswered (call_of s c.args.number) ≡ true) (sym c.self.view_is) c.requires in
+    let open_ = subst (λ (s : State). is_unanswered (call_of s.calling c.args.number) ≡ true) (sym c.self.view_is) c.requires in
     record {
       there =
-          open_found st.units c.args.number st.config.segments c.open_round-units.result.now (core_numbered c.self.inside st c.self.invariant c.self.view_is)
+          open_found st.calling.units c.args.number st.calling.segments c.open_round-units.result.now (core_numbered c.self.inside st c.self.invariant c.self.view_is)
           (c.open_round-units.ensures open_ ∙ core_opens c.self.inside st c.args.number c.self.invariant c.self.view_is) c.loop-unit.unit-index c.unit-item.result c.loop-unit-test.true
           c.unit-item.is (sym c.if-not-is_open.ensures);
     }

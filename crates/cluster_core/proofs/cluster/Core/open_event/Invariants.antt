@@ -6,4 +6,4 @@ use Rattle.cluster_core.proofs.cluster.Core.open_event.Given as goal
 
 abbrev pub invariant-loop-unit : goal.invariant-loop-unit
 invariant-loop-unit l =
-    first_some (unit_event l.self) (filter is_open_unit (drop l.unit-index l.units)) ≡ first_some (unit_event l.self) (open_units l.self l.fn.number)
+    first_some (unit_event l.self) (filter is_open_unit (drop l.unit-index l.units)) ≡ first_some (unit_event l.self) (open_units l.self.calling l.fn.number)

@@ -3,7 +3,8 @@ use Rattle.std.proofs.Common.{◌≡◌, ◌+◌, List, length, map, sym, subst,
 use Rattle.std.specs.List.{range_with_len}
 use Rattle.grid_event.specs.declared.call_events.Ask.{Ask}
 use Rattle.grid_event.specs.declared.event.Event.TheVariants as events
-use Rattle.cluster_calls.specs.Calling.{Calling, round_of}
+use Rattle.cluster_model.specs.State.{Calling}
+use Rattle.cluster_calls.specs.Calling.{round_of}
 use Rattle.cluster_core.proofs.RoundRows.{round_asks, round_seen}
 use Rattle.cluster_core.proofs.Rows.{core_next}
 use Rattle.cluster_core.proofs.cluster.Core.round.Goals as goal

@@ -18,7 +18,7 @@ pub returns : goal.returns
 returns c =
     let st = c.args.self.now in
     let number = c.args.number in
-    let id = c.installed_id.ensures ∙ ap (installed_id st.coord) c.originator-2.ensures in
-    let asks = c.in_ok-asks.ensures ∙ ap (λ (node : ℕ). asks_from st node (length st.units + 1) (incomplete st number)) c.originator.ensures in
+    let id = c.installed_id.ensures ∙ ap (installed_id st.holding.coord) c.originator-2.ensures in
+    let asks = c.in_ok-asks.ensures ∙ ap (λ (node : ℕ). asks_from st.holding node (length st.calling.units + 1) (incomplete st.calling number)) c.originator.ensures in
     ap (λ (r : RoundEvent). Some (events.Round r)) (c.in_ok-round.ensures ∙ (λ i. record { call = number; id = id i; asks = asks i }))
     ∙ sym (round_there st number c.in-Some.call.now (sym c.in-Some.ensures) (sym c.if-not-call_goes_on.ensures) (sym c.if-not-is_due.ensures))

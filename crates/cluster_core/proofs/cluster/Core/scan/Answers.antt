@@ -12,12 +12,12 @@ use Rattle.cluster_core.proofs.cluster.Core.scan.Goals as goal
 
 pub scan-requires-clause-may : goal.scan-requires-clause-may
 scan-requires-clause-may c =
-    ap (λ (st : State). is_one may_read (unit_of st c.args.scan.now.unit)) c.self.view_is ∙ (scan_may c.args.self.now c.args.scan.now c.requires).may
+    ap (λ (st : State). is_one may_read (unit_of st.calling c.args.scan.now.unit)) c.self.view_is ∙ (scan_may c.args.self.now c.args.scan.now c.requires).may
 
 pub scan-requires-clause-few : goal.scan-requires-clause-few
 scan-requires-clause-few c =
     let few = (scan_may c.args.self.now c.args.scan.now c.requires).few in
-    let units : read_by c.self.inside.calls.units ≡ read_by c.args.self.now.units = ap (λ (st : State). read_by st.units) c.self.view_is in
+    let units : read_by c.self.inside.calls.units ≡ read_by c.args.self.now.calling.units = ap (λ (st : State). read_by st.calling.units) c.self.view_is in
     let batch = ap (λ (b : Portion Entry). length b.entries) c.in_ok-batch.ensures in
     omega (arith, few, units, batch)
 

@@ -10,13 +10,13 @@ use Rattle.cluster_core.proofs.cluster.Core.serve_event.Goals as goal
 
 -- the landing and the copy at a node, and the event of its units
 abbrev landing : State → ℕ → Option Event
-landing st node = first_some (land_event st node) (segments_of st)
+landing st node = first_some (land_event st.holding node) (segments_of st.holding)
 
 abbrev copying : State → ℕ → Option Event
-copying st node = first_some (copy_event st node) (segments_of st)
+copying st node = first_some (copy_event st.holding node) (segments_of st.holding)
 
 abbrev serving : State → ℕ → Option Event
-serving st node = first_some (served_event st) (units_at st node)
+serving st node = first_some (served_event st) (units_at st.calling node)
 
 pub returns-in-Some : goal.returns-in-Some
 returns-in-Some c =

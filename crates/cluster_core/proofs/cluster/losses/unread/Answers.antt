@@ -7,7 +7,7 @@ use Rattle.topology_coord.specs.Coordination.{Coordination}
 use Rattle.topology_coord.proofs.SoFar.{add_so_far, none_so_far}
 use Rattle.topology_phase.specs.Owners.{among}
 use Rattle.topology_phase.specs.Topologies.{Topology, read_owners}
-use Rattle.cluster_laws.proofs.CauseRuns.{few_segments}
+use Rattle.cluster_laws.proofs.causes.CauseRuns.{few_segments}
 use Rattle.cluster_core.proofs.cluster.losses.unread.Goals as goal
 
 pub loop-number-init : goal.loop-number-init

@@ -4,12 +4,12 @@ use Rattle.std.specs.Result.{IfOk}
 use Rattle.grid_event.specs.declared.event.Event.{Event}
 use Rattle.topology_coord.specs.Coordination.{live_nodes}
 use Rattle.cluster_model.specs.Commands.{announce_event, copy_event, first_some}
-use Rattle.cluster_model.specs.State.{State, segments_of}
+use Rattle.cluster_model.specs.State.{Holding, segments_of}
 use Rattle.cluster_store.proofs.EventLaws.{advance_event-nodes}
 use Rattle.cluster_store.proofs.store.Store.advance_event.Goals as goal
 
 -- a copy to the least live node to which one may be sent
-abbrev any_copy : State → Option Event
+abbrev any_copy : Holding → Option Event
 any_copy st = first_some (λ node. first_some (copy_event st node) (segments_of st)) (live_nodes st.coord)
 
 pub returns-in-Some-any_landing : goal.returns-in-Some-any_landing

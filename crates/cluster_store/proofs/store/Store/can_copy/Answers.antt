@@ -1,7 +1,7 @@
 -- The chunk is the next one of the sender.
 use Rattle.std.proofs.Common.{◌≡◌, ◌==◌, ◌&&◌, Bool, true, false, not, refl, ap, sym, ◌∙◌}
 use Rattle.std.proofs.lemmas.Bool.{eqb-true}
-use Rattle.cluster_laws.proofs.Facts.{turned}
+use Rattle.cluster_laws.proofs.copies.Facts.{turned}
 use Rattle.cluster_model.specs.Same.{same_chunk}
 use Rattle.cluster_model.specs.Transfers.{is_provided, next_chunk_of}
 use Rattle.cluster_store.proofs.SendingLaws.{can_copy-sender}

@@ -1,6 +1,6 @@
 -- The chunk that is sent is that of the event.
 use Rattle.std.proofs.Common.{refl}
-use Rattle.cluster_store.specs.Insides.{state_of}
+use Rattle.cluster_store.specs.Insides.{holding_of}
 use Rattle.cluster_store.proofs.Rows.{copy_row, passed_row}
 use Rattle.cluster_store.proofs.SendingLaws.{copy_ready, copy_sends}
 use Rattle.cluster_store.proofs.store.Store.copy.Goals as goal
@@ -38,8 +38,8 @@ invariant_of-self-3 c =
     let sent =
     copy_sends c.self.inside c.args.self.now c.args.copy.now c.copy_chunk.new.self c.in_ok-copy_chunk.field-0 c.self.invariant c.self.view_is c.requires c.in_ok-copy_chunk.ensures.sent
     c.in_ok-copy_chunk.ensures.chunk c.in_ok-copy_chunk.ensures.ok in
-    let later = record c.self.inside { copies = c.copy_chunk.new.self; known = c.send.new.self } in
-    (passed_row later (state_of later) c.place_up_to-from.result
+    let later = record c.self.inside { copies = c.copy_chunk.new.self; hints = c.send.new.self } in
+    (passed_row later (holding_of later) c.place_up_to-from.result
     (copy_row c.self.inside c.args.self.now c.args.copy.now c.copy_chunk.new.self c.send.new.self c.self.invariant c.self.view_is c.requires sent c.send.ensures).store refl c.place_up_to-from.ensures).store
 
 pub returns-clause-ok : goal.returns-clause-ok

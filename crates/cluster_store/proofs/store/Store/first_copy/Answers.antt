@@ -5,15 +5,16 @@ use Rattle.grid_event.specs.declared.config.Config.{Config}
 use Rattle.grid_event.specs.declared.event.Event.{Event}
 use Rattle.grid_event.specs.declared.event.Event.TheVariants as events
 use Rattle.cluster_model.specs.Commands.{copy_event}
-use Rattle.cluster_model.specs.State.{State}
+use Rattle.cluster_model.specs.State.{Holding}
 use Rattle.cluster_store.specs.Sending.{sender}
 use Rattle.cluster_store.proofs.Searches.{row_here, row_left, row_none, row_start}
-use Rattle.cluster_store.proofs.SendingLaws.{copy_event-none, copy_event-sender, copy_with, some_mapped}
+use Rattle.cluster_model.specs.Commands.{copy_of}
+use Rattle.cluster_store.proofs.SendingLaws.{copy_event-none, copy_event-sender, some_mapped}
 use Rattle.cluster_store.proofs.store.Store.first_copy.Goals as goal
 
 -- there is a copy where there is a sender
-some_copy : (st : State) (node segment : ℕ) → is_some (copy_event st node segment) ≡ is_some (sender st node segment)
-some_copy st node segment = ap is_some (copy_event-sender st node segment) ∙ some_mapped (λ provider. events.Copy (copy_with st node segment provider)) (sender st node segment)
+some_copy : (st : Holding) (node segment : ℕ) → is_some (copy_event st node segment) ≡ is_some (sender st node segment)
+some_copy st node segment = ap is_some (copy_event-sender st node segment) ∙ some_mapped (λ provider. events.Copy (copy_of st node segment provider)) (sender st node segment)
 
 pub loop-number-init : goal.loop-number-init
 loop-number-init c =

@@ -2,8 +2,8 @@
 use Rattle.std.proofs.Common.{◌≡◌, ◌≤◌, ◌<◌, ◌==◌, arith, ap, sym, ◌∙◌}
 use Rattle.grid_event.specs.declared.config.Config.{Config}
 use Rattle.cluster_model.specs.Commands.{land_event}
-use Rattle.cluster_laws.proofs.Facts.{turned}
-use Rattle.cluster_model.specs.State.{State}
+use Rattle.cluster_laws.proofs.copies.Facts.{turned}
+use Rattle.cluster_model.specs.State.{Holding}
 use Rattle.cluster_store.proofs.Landings.{none_lands, nothing_lands, only_lands, other_lands}
 use Rattle.cluster_store.proofs.Searches.{row_here, row_left, row_none}
 use Rattle.cluster_store.proofs.store.Store.first_landing.Goals as goal
@@ -17,13 +17,13 @@ returns-then-ne c =
 
 pub returns-then-number-self : goal.returns-then-number-self
 returns-then-number-self c =
-    let segments : c.self.inside.config.segments ≡ c.args.self.now.config.segments = ap (λ (st : State). st.config.segments) c.self.view_is in
+    let segments : c.self.inside.config.segments ≡ c.args.self.now.config.segments = ap (λ (st : Holding). st.config.segments) c.self.view_is in
     let past : c.args.self.now.config.segments ≤ c.in-Only.segment = omega (arith, segments, c.number.ensures, c.if-number-self.true) in
     none_lands c.self.inside c.args.self.now c.self.invariant c.self.view_is c.in-Only.receiver c.in-Only.segment c.in-Only.is c.args.node past
 
 pub returns-in-Only : goal.returns-in-Only
 returns-in-Only c =
-    let segments : c.self.inside.config.segments ≡ c.args.self.now.config.segments = ap (λ (st : State). st.config.segments) c.self.view_is in
+    let segments : c.self.inside.config.segments ≡ c.args.self.now.config.segments = ap (λ (st : Holding). st.config.segments) c.self.view_is in
     let within : c.in-Only.segment < c.args.self.now.config.segments = omega (arith, segments, c.number.ensures, c.if-number-self.false) in
     c.land_event.ensures ∙ only_lands c.self.inside c.args.self.now c.self.invariant c.self.view_is c.in-Only.receiver c.in-Only.segment c.in-Only.is c.args.node within
 

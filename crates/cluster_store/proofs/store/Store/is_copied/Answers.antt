@@ -4,7 +4,7 @@ use Rattle.std.specs.List.{list_all}
 use Rattle.std.proofs.lemmas.Option.{get_or_from_slice_get}
 use Rattle.topology_phase.specs.Owners.{owners_at}
 use Rattle.topology_phase.specs.Topologies.{Topology}
-use Rattle.cluster_model.specs.State.{State}
+use Rattle.cluster_model.specs.State.{Holding}
 use Rattle.cluster_store.specs.Receivers.{has_copies}
 use Rattle.cluster_store.proofs.Searches.{all_here, all_left, all_on}
 use Rattle.cluster_store.proofs.store.Store.is_copied.Goals as goal
@@ -14,7 +14,7 @@ loop-place-init c =
     ap (list_all (has_copies c.args.self.now c.args.segment))
     (c.pending_owners-owners.ensures
     ∙ ap (λ (t : Topology). owners_at t.pending c.args.segment) c.newest.ensures.newest
-    ∙ ap (λ (st : State). owners_at st.coord.newest.pending c.args.segment) c.self.view_is)
+    ∙ ap (λ (st : Holding). owners_at st.coord.newest.pending c.args.segment) c.self.view_is)
 
 pub returns-then-not-has_copies : goal.returns-then-not-has_copies
 returns-then-not-has_copies c =

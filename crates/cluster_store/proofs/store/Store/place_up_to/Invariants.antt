@@ -1,6 +1,6 @@
 -- No chunk may be sent before the place so far.
 use Rattle.std.proofs.Common.{◌≤◌}
-use Rattle.cluster_store.specs.Known.{IsPassed}
+use Rattle.cluster_store.specs.Hints.{IsPassed}
 use Rattle.cluster_store.proofs.store.Store.place_up_to.Given as goal
 
 abbrev pub invariant-loop-number : goal.invariant-loop-number

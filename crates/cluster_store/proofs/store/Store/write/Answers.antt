@@ -4,7 +4,7 @@ use Rattle.std.specs.FinSet as set_of
 use Rattle.container_seg.specs.Lifespans.{outlasts}
 use Rattle.state_transfer.specs.Changes.{changes}
 use Rattle.topology_phase.specs.Owners.{pruned}
-use Rattle.cluster_model.specs.State.{State}
+use Rattle.cluster_model.specs.State.{Holding}
 use Rattle.cluster_store.proofs.Rows.{write_lasts, write_row, written_nowhere}
 use Rattle.cluster_store.proofs.store.Store.write.Goals as goal
 
@@ -12,7 +12,7 @@ pub returns-in_default-clause-ok : goal.returns-in_default-clause-ok
 returns-in_default-clause-ok c = written_nowhere c.args.self.now c.args.write.now (sym c.in_default.ensures.segment)
 
 pub write_at-requires : goal.write_at-requires
-write_at-requires c = ap (λ (st : State). outlasts st.copying.clock c.args.write.now.until) c.self.view_is ∙ write_lasts c.args.self.now c.args.write.now c.requires
+write_at-requires c = ap (λ (st : Holding). outlasts st.copying.clock c.args.write.now.until) c.self.view_is ∙ write_lasts c.args.self.now c.args.write.now c.requires
 
 pub invariant_of-self-2 : goal.invariant_of-self-2
 invariant_of-self-2 c =

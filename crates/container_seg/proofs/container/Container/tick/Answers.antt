@@ -11,5 +11,5 @@ returns c =
     let parts = c.self.inside.segments.items in
     let later = c.args.clock in
     let rises : clock ≤ later = omega (arith, ap (λ (x : Contents). x.clock) c.self.view_is, c.requires) in
-    (λ i. record { node = c.self.inside.node; clock = later; entries = laws.left_ticked clock later parts rises i })
+    (λ i. record { node = c.self.inside.node; clock = later; entries = (c.purge.ensures ∙ laws.left_ticked clock later parts rises) i })
     ∙ ap (λ (x : Contents). record { node = x.node; clock = later; entries = map.retain_keys x.entries (λ p. is_fresh later (map.get x.entries p)) }) c.self.view_is

@@ -1,5 +1,5 @@
 use Rattle.std.proofs.Common.{arith, ◌<◌, length}
-use Rattle.segment_hash.proofs.MarkedSets.{marked-add}
+use Rattle.grid_script.proofs.MarkedSets.{marked-add}
 use Rattle.grid_script.proofs.call_set.CallSet.add.Goals as goal
 
 pub returns : goal.returns

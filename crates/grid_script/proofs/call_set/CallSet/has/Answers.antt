@@ -1,4 +1,4 @@
-use Rattle.segment_hash.proofs.MarkedSets.{mark_of}
+use Rattle.grid_script.proofs.MarkedSets.{mark_of}
 use Rattle.grid_script.proofs.call_set.CallSet.has.Goals as goal
 
 pub returns : goal.returns

@@ -34,13 +34,13 @@ pub invariant_of-self-2 : goal.invariant_of-self-2
 invariant_of-self-2 t c =
     let h = c.self.inside.holders in
     let at : Destination = record { receiver = c.in-Some.node; segment = c.args.segment } in
-    subst (AreSound h.nodes h.clock) (sym c.in_ok-marked.ensures.ok) (sound_marked h.nodes h.clock c.self.inside.passages at c.args.key.now c.self.invariant)
+    subst (AreSound h.nodes h.clock) (sym c.in_ok-marked.ensures.ok) (sound_marked h.nodes h.clock c.self.inside.transfers at c.args.key.now c.self.invariant)
 
 pub invariant_of-self-in-Err : goal.invariant_of-self-in-Err
 invariant_of-self-in-Err t c =
     let h = c.self-2.inside.holders in
     let at : Destination = record { receiver = c.in-Some.node; segment = c.args.segment } in
-    subst (AreSound h.nodes h.clock) (sym c.restore.ensures) (sound_restored h.nodes h.clock c.self-2.inside.passages at c.args.key.now c.in_ok-marked.marked c.self-2.invariant)
+    subst (AreSound h.nodes h.clock) (sym c.restore.ensures) (sound_restored h.nodes h.clock c.self-2.inside.transfers at c.args.key.now c.in_ok-marked.marked c.self-2.invariant)
 
 pub returns-in-Ok-clause-ok : goal.returns-in-Ok-clause-ok
 returns-in-Ok-clause-ok t c =
@@ -50,16 +50,16 @@ returns-in-Ok-clause-ok t c =
     let s = c.args.segment in
     let k = c.args.key.now in
     let at : Destination = record { receiver = n; segment = s } in
-    let first : Copying = record { clock = h.clock; cells = h.cells; transfers = c.self.inside.passages } in
+    let first : Copying = record { clock = h.clock; cells = h.cells; transfers = c.self.inside.transfers } in
     let marked : Copying = record first { transfers = each_changed (marks_at at k) first.transfers } in
     let there : set.contains h.nodes n ≡ true = sym c.has.ensures ∙ c.if-not-has.false in
     let others = filter (set.contains h.nodes) (drop (c.args.from + 1) c.args.owners.now) in
-    let rest : ◌≡◌ {A = Stores} (record { nodes = more.nodes; copying = record { clock = more.clock; cells = more.cells; transfers = c.self-2.inside.passages } }) (record { nodes = h.nodes; copying = changes others s k None marked }) =
+    let rest : ◌≡◌ {A = Stores} (record { nodes = more.nodes; copying = record { clock = more.clock; cells = more.cells; transfers = c.self-2.inside.transfers } }) (record { nodes = h.nodes; copying = changes others s k None marked }) =
     c.self-2.view_is ∙ c.in-Ok.ensures.ok
     ∙ (λ i. record { nodes = h.nodes; copying = changes others s k None (record first { transfers = c.in_ok-marked.ensures.ok i }) }) in
     (λ i. record {
       nodes = (ap (λ (x : Holdings). x.nodes) c.remove.ensures) i;
-      copying = record { clock = (ap (λ (x : Holdings). x.clock) c.remove.ensures) i; cells = (ap (λ (x : Holdings). x.cells) c.remove.ensures) i; transfers = c.self-2.inside.passages };
+      copying = record { clock = (ap (λ (x : Holdings). x.clock) c.remove.ensures) i; cells = (ap (λ (x : Holdings). x.cells) c.remove.ensures) i; transfers = c.self-2.inside.transfers };
     })
     ∙ ap (λ (x : Stores). record x { copying = record x.copying { cells = map.remove x.copying.cells (record { node = n; segment = s; key = k }) } }) rest
     ∙ (λ i. record {
@@ -77,7 +77,7 @@ returns-in-Err-clause-err t c =
     let n = c.in-Some.node in
     let s = c.args.segment in
     let k = c.args.key.now in
-    let ts = c.self.inside.passages in
+    let ts = c.self.inside.transfers in
     let at : Destination = record { receiver = n; segment = s } in
     let m = c.in_ok-marked.marked in
     (λ i. record { nodes = more.nodes; copying = record { clock = more.clock; cells = more.cells; transfers = c.restore.ensures i } })

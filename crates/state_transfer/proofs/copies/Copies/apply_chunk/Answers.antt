@@ -12,7 +12,7 @@ invariant_of-self-2 c =
     let h = c.self.inside.holders in
     let at : Destination = record { receiver = c.args.receiver; segment = c.args.segment } in
     subst (λ (p : Holdings × Transfers). AreSound p.0.nodes p.0.clock p.1) (λ i. (sym c.in_ok-land_flying.ensures.ok i, sym c.land.ensures i))
-    (sound_landed h.nodes h.clock c.self.inside.passages at c.self.invariant)
+    (sound_landed h.nodes h.clock c.self.inside.transfers at c.self.invariant)
 
 pub returns-clause-ok : goal.returns-clause-ok
 unfolding lands

@@ -18,4 +18,4 @@ pub invariant_of-self : goal.invariant_of-self
 invariant_of-self c =
     let h = c.self.inside.holders in
     subst (AreSound h.nodes h.clock) (sym c.cancel.ensures)
-    (sound_kept h.nodes h.clock c.self.inside.passages (λ to. not (to.receiver == c.args.receiver)) (λ to x e. ap (λ (d : Destination). not (d.receiver == c.args.receiver)) (sym (exact_destinations to x e))) c.self.invariant)
+    (sound_kept h.nodes h.clock c.self.inside.transfers (λ to. not (to.receiver == c.args.receiver)) (λ to x e. ap (λ (d : Destination). not (d.receiver == c.args.receiver)) (sym (exact_destinations to x e))) c.self.invariant)

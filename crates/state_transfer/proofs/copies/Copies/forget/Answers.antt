@@ -18,4 +18,4 @@ pub invariant_of-self : goal.invariant_of-self
 invariant_of-self c =
     let h = c.self.inside.holders in
     subst (λ (p : Holdings × Transfers). AreSound p.0.nodes p.0.clock p.1) (λ i. (sym c.forget.ensures i, sym c.forget-2.ensures i))
-    (sound_kept h.nodes h.clock c.self.inside.passages (λ to. not (to.segment == c.args.segment)) (λ to x e. ap (λ (d : Destination). not (d.segment == c.args.segment)) (sym (exact_destinations to x e))) c.self.invariant)
+    (sound_kept h.nodes h.clock c.self.inside.transfers (λ to. not (to.segment == c.args.segment)) (λ to x e. ap (λ (d : Destination). not (d.segment == c.args.segment)) (sym (exact_destinations to x e))) c.self.invariant)

@@ -14,11 +14,11 @@ invariant_of-self-in-Ok c =
     let h = c.self.inside.holders in
     let at : Destination = record { receiver = c.args.node; segment = c.args.segment } in
     subst (λ (p : Holdings × Transfers). AreSound p.0.nodes p.0.clock p.1) (λ i. (sym c.in-Ok.ensures.ok i, sym c.in_ok-marked.ensures.ok i))
-    (sound_marked h.nodes h.clock c.self.inside.passages at c.args.key.now c.self.invariant)
+    (sound_marked h.nodes h.clock c.self.inside.transfers at c.args.key.now c.self.invariant)
 
 pub invariant_of-self-in-Err : goal.invariant_of-self-in-Err
 invariant_of-self-in-Err c =
-    let ts = c.self.inside.passages in
+    let ts = c.self.inside.transfers in
     let at : Destination = record { receiver = c.args.node; segment = c.args.segment } in
     let back : c.restore.new.self ≡ ts =
     c.restore.ensures ∙ ap (λ m. cond c.in_ok-marked.marked (each_changed (unmarks_at at c.args.key.now) m) m) c.in_ok-marked.ensures.ok
@@ -28,7 +28,7 @@ invariant_of-self-in-Err c =
 pub returns-in-Ok-clause-ok : goal.returns-in-Ok-clause-ok
 returns-in-Ok-clause-ok c =
     let h = c.self.inside.holders in
-    let ts = c.self.inside.passages in
+    let ts = c.self.inside.transfers in
     let n = c.args.node in
     let s = c.args.segment in
     let k = c.args.key.now in
@@ -47,7 +47,7 @@ returns-in-Ok-clause-ok c =
 
 pub returns-in-Err-clause-err : goal.returns-in-Err-clause-err
 returns-in-Err-clause-err c =
-    let ts = c.self.inside.passages in
+    let ts = c.self.inside.transfers in
     let at : Destination = record { receiver = c.args.node; segment = c.args.segment } in
     let back : c.restore.new.self ≡ ts =
     c.restore.ensures ∙ ap (λ m. cond c.in_ok-marked.marked (each_changed (unmarks_at at c.args.key.now) m) m) c.in_ok-marked.ensures.ok

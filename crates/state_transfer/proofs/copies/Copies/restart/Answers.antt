@@ -17,6 +17,6 @@ returns c =
 pub invariant_of-self : goal.invariant_of-self
 invariant_of-self c =
     let h = c.self.inside.holders in
-    let ts = c.self.inside.passages in
+    let ts = c.self.inside.transfers in
     subst (AreSound h.nodes h.clock) (sym c.restart.ensures)
     (sound_kept h.nodes h.clock ts (λ to. outlives c.args.provider (map.get ts to)) (λ to x e. ap (outlives c.args.provider) (map.get_tied destinations_total ts to x e)) c.self.invariant)

@@ -13,7 +13,7 @@ use Rattle.state_transfer.proofs.copies.Copies.send.Goals as goal
 pub invariant_of-self-2 : goal.invariant_of-self-2
 invariant_of-self-2 c =
     let h = c.self.inside.holders in
-    let ts = c.self.inside.passages in
+    let ts = c.self.inside.transfers in
     let at : Destination = record { receiver = c.args.receiver; segment = c.args.segment } in
     subst (λ (p : Holdings × Transfers). AreSound p.0.nodes p.0.clock p.1) (λ i. (sym c.drop_unless.ensures i, sym c.in_ok-send.ensures.ok i))
     (sound_sent h.nodes h.clock ts at (begun (map.get ts at) c.args.provider) c.args.chunk
@@ -25,7 +25,7 @@ pub returns-clause-ok : goal.returns-clause-ok
 unfolding sends
 returns-clause-ok c =
     let h = c.self.inside.holders in
-    let ts = c.self.inside.passages in
+    let ts = c.self.inside.transfers in
     let at : Destination = record { receiver = c.args.receiver; segment = c.args.segment } in
     let kept : c.is_some-kept.result ≡ is_some (map.get ts at) = c.is_some-kept.ensures ∙ some_lent c.get.result ∙ ap is_some c.get.ensures in
     (λ i. let x : Holdings = c.drop_unless.ensures i in record { nodes = x.nodes; copying = record { clock = x.clock; cells = x.cells; transfers = c.in_ok-send.ensures.ok i } })

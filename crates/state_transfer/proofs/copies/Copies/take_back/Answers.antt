@@ -11,4 +11,4 @@ invariant_of-self c =
     let h = c.self.inside.holders in
     let at : Destination = record { receiver = c.args.node; segment = c.args.segment } in
     subst (λ (p : Holdings × Transfers). AreSound p.0.nodes p.0.clock p.1) (λ i. (sym c.restore.ensures i, sym c.restore-2.ensures i))
-    (sound_restored h.nodes h.clock c.self.inside.passages at c.args.key.now c.args.before.marked c.self.invariant)
+    (sound_restored h.nodes h.clock c.self.inside.transfers at c.args.key.now c.args.before.marked c.self.invariant)

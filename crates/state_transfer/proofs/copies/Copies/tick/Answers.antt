@@ -16,4 +16,4 @@ pub invariant_of-self : goal.invariant_of-self
 invariant_of-self c =
     let h = c.self.inside.holders in
     subst (λ (p : Holdings × Transfers). AreSound p.0.nodes p.0.clock p.1) (λ i. (sym c.tick.ensures i, sym c.tick-2.ensures i))
-    (sound_ticked h.nodes h.clock c.args.clock c.self.inside.passages c.self.invariant)
+    (sound_ticked h.nodes h.clock c.args.clock c.self.inside.transfers c.self.invariant)

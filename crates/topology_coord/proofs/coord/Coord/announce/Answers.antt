@@ -16,5 +16,5 @@ invariant_of-self c =
 pub returns : goal.returns
 unfolding announces
 returns c =
-    (λ i. record { owners = c.self.inside.owners; ever = c.self.inside.ever; installed = c.self.inside.installed; newest = c.replace-before.ensures.after i; before = c.replace-before.ensures.value i })
+    (λ i. record { owners = c.self.inside.owners; aim = c.self.inside.aim; ever = c.self.inside.ever; installed = c.self.inside.installed; newest = c.replace-before.ensures.after i; before = c.replace-before.ensures.value i })
     ∙ ap (λ v. announces v c.args.next) c.self.view_is

@@ -29,7 +29,7 @@ invariant_of-self c =
 pub returns-clause-departs : goal.returns-clause-departs
 unfolding departs
 returns-clause-departs c =
-    (λ i. record { owners = c.self.inside.owners; ever = c.self.inside.ever; installed = c.remove-2.ensures i; newest = c.self.inside.newest; before = c.self.inside.before })
+    (λ i. record { owners = c.self.inside.owners; aim = c.self.inside.aim; ever = c.self.inside.ever; installed = c.remove-2.ensures i; newest = c.self.inside.newest; before = c.self.inside.before })
     ∙ ap (λ v. departs v c.args.n) c.self.view_is
 
 pub returns-clause-lost : goal.returns-clause-lost

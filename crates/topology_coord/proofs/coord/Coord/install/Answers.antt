@@ -23,5 +23,5 @@ pub returns-clause-installs : goal.returns-clause-installs
 unfolding installs
 returns-clause-installs c =
     let put = c.put.ensures ∙ ap (map_of.insert c.self.inside.installed c.args.n) c.id-newest.ensures in
-    (λ i. record { owners = c.self.inside.owners; ever = c.self.inside.ever; installed = put i; newest = c.self.inside.newest; before = c.self.inside.before })
+    (λ i. record { owners = c.self.inside.owners; aim = c.self.inside.aim; ever = c.self.inside.ever; installed = put i; newest = c.self.inside.newest; before = c.self.inside.before })
     ∙ ap (λ v. installs v c.args.n) c.self.view_is

@@ -16,5 +16,5 @@ pub returns : goal.returns
 unfolding joins
 returns c =
     let put = c.put.ensures ∙ ap (map_of.insert c.self.inside.installed c.args.n) c.id.ensures in
-    (λ i. record { owners = c.self.inside.owners; ever = c.add.ensures i; installed = put i; newest = c.self.inside.newest; before = c.self.inside.before })
+    (λ i. record { owners = c.self.inside.owners; aim = c.self.inside.aim; ever = c.add.ensures i; installed = put i; newest = c.self.inside.newest; before = c.self.inside.before })
     ∙ ap (λ v. joins v c.args.n) c.self.view_is

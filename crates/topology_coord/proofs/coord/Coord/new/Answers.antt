@@ -26,4 +26,4 @@ returns c =
     let hash = c.in_ok-hash.ensures ∙ ap (λ ns. created ns c.args.segments c.args.owners) c.first_nodes-ever.ensures.members in
     let newest : c.new-newest.result ≡ first_topology c.args.nodes c.args.segments c.args.owners = c.new-newest.ensures ∙ (λ i. record { id = c.new.ensures i; phase = NoRebalance; current = hash i; pending = [] }) in
     let before : c.in_ok-before.before ≡ first_topology c.args.nodes c.args.segments c.args.owners = c.in_ok-before.ensures ∙ newest in
-    λ i. record { owners = c.args.owners; ever = c.first_nodes-ever.ensures.nodes i; installed = c.first.ensures i; newest = newest i; before = before i }
+    λ i. record { owners = c.args.owners; aim = c.args.aim; ever = c.first_nodes-ever.ensures.nodes i; installed = c.first.ensures i; newest = newest i; before = before i }
