@@ -6,3 +6,4 @@ pub mod FirstNodes
 pub mod Living
 pub mod NextNumbers
 pub mod SoFar
+pub mod Installing

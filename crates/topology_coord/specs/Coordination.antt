@@ -1,5 +1,5 @@
 -- What a coordinator knows of a cluster: its members, and the topologies in force.
-use Rattle.std.specs.Prelude.{ℕ, ◌==◌, Bool, not, ◌&&◌, cond, List, [], map, length, Option, find, unwrap_or}
+use Rattle.std.specs.Prelude.{◌≡◌, ◌⊎◌, ℕ, ◌==◌, Bool, not, ◌&&◌, cond, List, [], map, length, Option, Some, find, unwrap_or}
 use Rattle.std.specs.List.{filter, list_all, list_any, range_with_len}
 use Rattle.std.specs.FinMap as map_of
 use Rattle.std.specs.FinSet as set_of
@@ -55,6 +55,10 @@ installed_id c node = unwrap_or (map_of.get c.installed node) 0
 -- the topology that a live node has installed: the newest, or the one before it
 abbrev pub topology_of : Coordination → ℕ → Topology
 topology_of c node = cond (installed_id c node == c.newest.id) c.newest c.before
+
+-- each live node has installed one of the topologies of two numbers
+abbrev pub HaveEither : map_of.FinMap nat_cmp ℕ → ℕ → ℕ → Type 0
+HaveEither installed one other = (node id : ℕ) → map_of.get installed node ≡ Some id → (id ≡ one) ⊎ (id ≡ other)
 
 -- every live node has installed the newest topology
 abbrev pub all_installed : Coordination → Bool

@@ -2,7 +2,7 @@
 use Rattle.std.specs.Prelude.{◌<◌, ◌≤◌, length}
 use Rattle.std.specs.FinMap as map_of
 use Rattle.topology_coord.specs.declared.coord.Coord.TheInside.{Inside}
-use Rattle.topology_coord.specs.Coordination.{Coordination}
+use Rattle.topology_coord.specs.Coordination.{Coordination, HaveEither}
 
 -- what a coordinator's fields are seen as
 abbrev pub coordination_of : Inside → Coordination
@@ -15,9 +15,11 @@ coordination_of a = record {
   before = a.before;
 }
 
--- a segment is to have one to four owners, some node lives, and topologies are numbered from 1 on
+-- a segment is to have one to four owners, some node lives, topologies are numbered from 1 on, and each live node has installed the
+-- newest or the one before it
 pub record IsCoord (a : Inside) : Type 0 where
   pub some_owner : 1 ≤ a.owners
   pub few_owners : a.owners ≤ 4
   pub some_live : 0 < length (map_of.keys a.installed)
   pub numbered : 1 ≤ a.newest.id
+  pub known : HaveEither a.installed a.newest.id a.before.id

@@ -135,6 +135,7 @@ impl Coord {
     pub fn installed(&self, n: NodeId) -> Option<&Topology>
         ensures none { IsNone result ↔ (lives self.now n ≡ false) }
         ensures some { IfSome result (λ topology. topology.now ≡ topology_of self.now n) }
+        ensures own { IfSome result (λ topology. topology.now.id ≡ installed_id self.now n) }
     {
         if !self.is_live(n) {
             return None;
@@ -145,7 +146,8 @@ impl Coord {
     /// The newest topology where node `n` has installed it, and else the one before it: of a live
     /// node the topology that it has installed.
     pub fn topology_of(&self, n: NodeId) -> &Topology
-        ensures { result.now ≡ topology_of self.now n }
+        ensures is { result.now ≡ topology_of self.now n }
+        ensures own { lives self.now n ≡ true → result.now.id ≡ installed_id self.now n }
     {
         if self.installed.id(n) == self.newest.id().number() {
             return &self.newest;

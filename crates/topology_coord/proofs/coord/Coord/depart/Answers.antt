@@ -5,8 +5,9 @@ use Rattle.std.specs.List.{list_any}
 use Rattle.topology_phase.specs.Owners.{among, members}
 use Rattle.topology_phase.specs.Topologies.{holders}
 use Rattle.topology_coord.specs.Changes.{departs}
-use Rattle.topology_coord.specs.Coordination.{live_nodes, lives}
+use Rattle.topology_coord.specs.Coordination.{HaveEither, live_nodes, lives}
 use Rattle.topology_coord.proofs.Living.{live_left, loses_told}
+use Rattle.topology_coord.proofs.Installing.{either_left}
 use Rattle.topology_coord.proofs.coord.Coord.depart.Goals as goal
 
 pub remove-requires-2 : goal.remove-requires-2
@@ -24,6 +25,8 @@ invariant_of-self c =
       few_owners = c.self.invariant.few_owners;
       some_live = subst (λ m. 0 < length (map_of.keys m)) (sym c.remove-2.ensures) (live_left c.self.inside.installed c.args.n live more);
       numbered = c.self.invariant.numbered;
+      known = subst (λ m. HaveEither m c.self.inside.newest.id c.self.inside.before.id) (sym c.remove-2.ensures)
+      (either_left c.self.inside.installed c.args.n c.self.inside.newest.id c.self.inside.before.id c.self.invariant.known);
     }
 
 pub returns-clause-departs : goal.returns-clause-departs

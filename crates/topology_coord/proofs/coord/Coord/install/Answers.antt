@@ -1,8 +1,9 @@
 use Rattle.std.proofs.Common.{◌≡◌, ◌<◌, length, sym, ap, ◌∙◌, subst}
 use Rattle.std.specs.FinMap as map_of
-use Rattle.topology_coord.specs.Coordination.{installed_id}
+use Rattle.topology_coord.specs.Coordination.{HaveEither, installed_id}
 use Rattle.topology_coord.specs.Changes.{installs}
 use Rattle.topology_coord.proofs.Living.{installs_again, live_more}
+use Rattle.topology_coord.proofs.Installing.{either_more}
 use Rattle.topology_coord.proofs.coord.Coord.install.Goals as goal
 
 pub returns-then-id-number-clause-installs : goal.returns-then-id-number-clause-installs
@@ -17,6 +18,8 @@ invariant_of-self c = record {
   few_owners = c.self.invariant.few_owners;
   some_live = subst (λ m. 0 < length (map_of.keys m)) (sym c.put.ensures) (live_more c.self.inside.installed c.args.n c.id-newest.result);
   numbered = c.self.invariant.numbered;
+  known = subst (λ m. HaveEither m c.self.inside.newest.id c.self.inside.before.id) (sym (c.put.ensures ∙ ap (map_of.insert c.self.inside.installed c.args.n) c.id-newest.ensures))
+  (either_more c.self.inside.installed c.args.n c.self.inside.newest.id c.self.inside.before.id c.self.invariant.known);
 }
 
 pub returns-clause-installs : goal.returns-clause-installs

@@ -1,10 +1,12 @@
-use Rattle.std.proofs.Common.{◌≡◌, ◌<◌, [], length, arith, sym, ap, ◌∙◌, subst}
+use Rattle.std.proofs.Common.{◌≡◌, ◌<◌, [], length, arith, sym, ap, ◌∙◌, subst, inl}
 use Rattle.std.specs.FinMap as map_of
 use Rattle.std.specs.List.{range_with_len}
 use Rattle.topology_phase.specs.declared.phase.Phase.TheVariants.{NoRebalance}
 use Rattle.hash_factory.specs.Formulas.{created}
+use Rattle.topology_phase.specs.Topologies.{Topology}
 use Rattle.topology_coord.specs.Coordination.{first_coordination, first_topology}
 use Rattle.topology_coord.proofs.FirstNodes.{first_some, whole_first}
+use Rattle.topology_coord.proofs.Installing.{first_have}
 use Rattle.topology_coord.proofs.coord.Coord.new.Goals as goal
 
 pub new-newest-requires-clause-kept : goal.new-newest-requires-clause-kept
@@ -18,6 +20,7 @@ invariant_of-result c = record {
   few_owners = c.requires.few_owners;
   some_live = subst (λ m. 0 < length (map_of.keys m)) (sym c.first.ensures) (first_some c.args.nodes c.requires.some_node);
   numbered = omega (arith, ap (λ t. t.id) c.new-newest.ensures, c.new.ensures);
+  known = λ node id has. inl (first_have c.args.nodes node id (ap (λ m. map_of.get m node) (sym c.first.ensures) ∙ has) ∙ sym c.new.ensures ∙ ap (λ (t : Topology). t.id) (sym c.new-newest.ensures));
 }
 
 pub returns : goal.returns
