@@ -9,3 +9,4 @@ pub mod units
 pub mod causes
 pub mod answers
 pub mod stuck
+pub mod RightRuns

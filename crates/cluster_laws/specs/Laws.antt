@@ -16,7 +16,7 @@ use Rattle.grid_event.specs.declared.outcome.Outcome.{Outcome}
 use Rattle.local_publisher.specs.declared.unit_state.UnitState.{UnitState}
 use Rattle.local_publisher.specs.declared.unit_state.UnitState.TheVariants.{Refused}
 use Rattle.state_transfer.specs.Copying.{copy_at}
-use Rattle.topology_coord.specs.Coordination.{all_installed, topology_of}
+use Rattle.topology_coord.specs.Coordination.{all_installed, lives, topology_of}
 use Rattle.topology_phase.specs.Owners.{among}
 use Rattle.topology_phase.specs.Phases.{same_phase}
 use Rattle.topology_phase.specs.Topologies.{holders, read_owners}
@@ -28,11 +28,12 @@ use Rattle.cluster_model.specs.Evidence.{evidence, given_in, how_many, request_o
 use Rattle.cluster_model.specs.Guarantees.{rounds_in}
 use Rattle.cluster_model.specs.Kept.{IsKept}
 use Rattle.cluster_model.specs.Rightness.{IsRight}
-use Rattle.cluster_model.specs.State.{Call, State, Unit, call_of, is_ended, is_lost, is_of, is_on, is_open_unit, is_walk, start}
+use Rattle.cluster_model.specs.State.{Call, State, Unit, call_of, is_ended, is_lost, is_of, is_on, is_open_unit, is_walk, segments_of, start}
 use Rattle.cluster_model.specs.Step.{allowed, runs, state}
 use Rattle.cluster_model.specs.Told.{IsTold, contents_of, installed_by}
 use Rattle.cluster_model.specs.Topologies.{is_complete, next_topology}
 use Rattle.cluster_model.specs.Units.{taken_entries}
+use Rattle.cluster_model.specs.Writes.{has_reader}
 
 -- a live holder of a segment by the newest topology has exactly the map's part of it, deadlines included; and a live node that
 -- reads a segment by the topology that it has installed is such a holder. Live, newest, installed and the map are told by the events
@@ -112,10 +113,13 @@ fits_journal events = nat_le (length events) MOST_EVENTS && nat_le (total_weight
 abbrev pub is_settled : State → Bool
 is_settled st = all_installed st.holding.coord && (same_phase st.holding.coord.newest.phase NoRebalance && is_none (next_topology st.holding))
 
--- a call that isn't answered may be driven on, and so may the topology be until it is settled
+-- a call that isn't answered may be driven on, and so may the topology be until it is settled, and until each live node reaches
+-- each segment
 pub record NothingIsStuck (st : State) : Type 0 where
   pub drive : (call : ℕ) → is_unanswered (call_of st.calling call) ≡ true → is_some (drive_event st call) ≡ true
   pub advance : is_settled st ≡ false → is_some (advance_event st.holding) ≡ true
+  pub reach : (node segment : ℕ) → lives st.holding.coord node ≡ true → among segment (segments_of st.holding) ≡ true
+      → has_reader st.holding node segment ≡ false → is_some (advance_event st.holding) ≡ true
 
 -- after every run that a journal holds nothing is stuck
 abbrev pub NoCallIsStuck : Type 0

@@ -57,7 +57,7 @@ pub fn outcomes_are_caused()
 
 /// After every such run that a journal holds, with at most 1,000,000 events and at most 2,000,000
 /// entries and items, Drive of an unanswered call has an event, and Advance has one until the
-/// topology is settled.
+/// topology is settled, and also as long as a live node reaches no live reader of some segment.
 pub fn no_call_is_stuck()
     ensures { NoCallIsStuck }
 {}

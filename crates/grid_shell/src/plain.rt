@@ -2,6 +2,7 @@
 
 ghost use Rattle.std.specs.Prelude.{◌≡◌, ◌≤◌, ◌↔◌, ◌⊎◌, ℕ, List, true, false};
 ghost use Rattle.std.specs.Io.KnownBytes.{Appends, Consumes};
+ghost use Rattle.cluster_laws.specs.RightRuns.{IsRightAndCaused};
 ghost use Rattle.cluster_model.specs.Step.{is_run};
 ghost use Rattle.grid_event.specs.Histories.{blank};
 ghost use Rattle.grid_io.specs.Count.{Rose};
@@ -11,7 +12,6 @@ ghost use Rattle.grid_shell.specs.Causes.{Had, IsRefusal, IsRunFront, IsRunTo, I
 ghost use Rattle.grid_shell.specs.Lines.{full_line, refused_line, text_of, usage_line};
 ghost use Rattle.grid_shell.specs.Words.{asked_of};
 ghost use Rattle.step_run.specs.Finished.{IsFinished};
-ghost use Rattle.step_run.specs.RightRuns.{IsRightAndCaused};
 
 use crate::asks::Asked;
 use crate::sources::{run_generated, run_source};

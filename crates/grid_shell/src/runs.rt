@@ -2,6 +2,7 @@
 
 ghost use Rattle.std.specs.Prelude.{◌≡◌, ◌≤◌, ◌⊎◌, ℕ, true, IsSome};
 ghost use Rattle.std.specs.Io.KnownBytes.{Appends};
+ghost use Rattle.cluster_laws.specs.RightRuns.{IsRightAndCaused};
 ghost use Rattle.cluster_model.specs.Step.{is_run};
 ghost use Rattle.grid_event.specs.Histories.{blank};
 ghost use Rattle.grid_io.specs.Count.{Rose};
@@ -10,7 +11,6 @@ ghost use Rattle.grid_shell.specs.Causes.{IsRunFront, IsRunTo, IsWholeRun};
 ghost use Rattle.grid_shell.specs.Endings.{IsEnding};
 ghost use Rattle.grid_shell.specs.Lines.{full_line, refused_line, text_of};
 ghost use Rattle.step_run.specs.Finished.{IsFinished};
-ghost use Rattle.step_run.specs.RightRuns.{IsRightAndCaused};
 
 use crate::asks::Form;
 use crate::status::Status;

@@ -2,4 +2,3 @@ pub mod StepRuns
 pub mod Outcomes
 pub mod Finished
 pub mod Laws
-pub mod RightRuns

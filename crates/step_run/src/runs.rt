@@ -3,11 +3,11 @@
 ghost use Rattle.std.specs.Prelude.{◌≡◌, true, OnOk, Some};
 ghost use Rattle.grid_event.specs.Configs.{is_config};
 ghost use Rattle.grid_event.specs.Histories.{blank};
+ghost use Rattle.cluster_laws.specs.RightRuns.{IsRightAndCaused};
 ghost use Rattle.cluster_model.specs.Step.{is_run};
 ghost use Rattle.step_run.specs.StepRuns.{run_of};
 ghost use Rattle.step_run.specs.Finished.{IsFinished};
 ghost use Rattle.step_run.specs.Outcomes.{LeavesRun};
-ghost use Rattle.step_run.specs.RightRuns.{IsRightAndCaused};
 
 use crate::lines::{do_lines, end_all};
 use crate::run_fault::RunFault;

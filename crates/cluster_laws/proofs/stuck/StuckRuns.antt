@@ -27,7 +27,7 @@ use Rattle.cluster_model.specs.Answers.{can_answer, can_answer_call, first_of, g
 use Rattle.cluster_model.specs.Calls.{all_complete, asks_of, can_round, granted, has_caught_up, has_open, incomplete, is_due, is_next_round}
 use Rattle.cluster_model.specs.Commands.{advance_event, answer_event, drive_event, first_some, if_any_allowed, is_unanswered, open_units, or_else, round_event, round_with, unit_event}
 use Rattle.cluster_model.specs.Same.{same_ask}
-use Rattle.cluster_model.specs.State.{Call, State, Unit, call_of, goes_on, is_ended, is_of, is_on, is_open_unit, segments_read, start, unit_of}
+use Rattle.cluster_model.specs.State.{Call, State, Unit, call_of, goes_on, is_ended, is_of, is_on, is_open_unit, segments_of, segments_read, start, unit_of}
 use Rattle.cluster_model.specs.Step.{runs, state}
 use Rattle.cluster_model.specs.Topologies.{is_complete}
 use Rattle.cluster_model.specs.Units.{batch_size, next_batch, read_by}
@@ -362,8 +362,16 @@ module _ (config : Config) (past : List Event) (st : State) (h : IsReasoned conf
   nothing_stuck = record {
     drive = λ number waits. by_call number (call_of st.calling number) refl waits;
     advance = advance_on;
+    reach = λ node segment live within none. by_newest node segment live within none (installed_id st.holding.coord node == st.holding.coord.newest.id) refl;
   }
     where
+      by_newest : (node segment : ℕ) → lives st.holding.coord node ≡ true → among segment (segments_of st.holding) ≡ true → has_reader st.holding node segment ≡ false →
+          (b : Bool) → (installed_id st.holding.coord node == st.holding.coord.newest.id) ≡ b → is_some (advance_event st.holding) ≡ true
+      by_newest node segment live within none false other = installs node live other
+      by_newest node segment live within none true same =
+          unread_there config.segments st h.traced.kept.parts.topologies settings room.owned early segment within
+          (ap (λ (t : Topology). some_live st.holding.coord (read_owners t segment)) (sym (ap (λ b. cond b st.holding.coord.newest st.holding.coord.before) same)) ∙ none)
+
       unanswered_is : {A : Type 0} (o : Option A) → is_none o ≡ true → o ≡ None
       unanswered_is None e = refl
       unanswered_is (Some x) e = absurd (cc)
