@@ -1,1 +1,2 @@
 pub mod TotalWeights
+pub mod PlacedNotes

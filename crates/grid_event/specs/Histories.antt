@@ -1,5 +1,5 @@
 -- A journal as a reader sees it: a configuration, the events in their order, and the notes of idle lines.
-use Rattle.std.specs.Prelude.{ℕ, ◌+◌, Bool, nat_lt, nat_le, ◌||◌, List, [], ◌∷◌, ◌++◌, length, Option, None}
+use Rattle.std.specs.Prelude.{ℕ, ◌+◌, Bool, true, nat_lt, nat_le, ◌&&◌, ◌||◌, List, [], ◌∷◌, ◌++◌, length, Option, None}
 use Rattle.grid_base.specs.declared.limits.TheConstants.{MOST_EVENTS, MOST_WEIGHT}
 use Rattle.grid_event.specs.declared.config.Config.{Config}
 use Rattle.grid_event.specs.declared.event.Event.{Event}
@@ -33,3 +33,8 @@ with_idle history line = record history { idle = history.idle ++ record { place 
 abbrev pub passes_limit : History → Event → Bool
 passes_limit history event =
     nat_le MOST_EVENTS (length history.events) || nat_lt MOST_WEIGHT (total_weight history.events + weight_of event)
+
+-- the idle notes stand in the order of their places, the first not before one place, the last not behind another
+abbrev pub are_placed : ℕ → ℕ → List Idle → Bool
+are_placed first last [] = true
+are_placed first last (note ∷ notes) = (nat_le first note.place && nat_le note.place last) && are_placed note.place last notes

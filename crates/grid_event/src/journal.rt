@@ -5,7 +5,7 @@ ghost use Rattle.std.specs.Prelude.{◌≡◌, ◌<◌, ◌≤◌, ◌-◌, ◌+
 ghost use Rattle.std.specs.Prelude.{IfOk, IfSome, IsErrOf, IsOk, IsSome, OnErr, OnOk, slice_get};
 ghost use Rattle.std.specs.Option.{option_copied};
 ghost use Rattle.grid_event.specs.Configs.{is_config};
-ghost use Rattle.grid_event.specs.Histories.{blank, passes_limit, with_event, with_idle};
+ghost use Rattle.grid_event.specs.Histories.{are_placed, blank, passes_limit, with_event, with_idle};
 ghost use Rattle.grid_event.specs.Weights.{total_weight};
 
 use crate::config::Config;
@@ -74,28 +74,39 @@ impl Journal {
         ensures full { IsErrOf result PushFault.Full ↔ (passes_limit self.old.history event ≡ true) }
         ensures prepared { 0 < self.old.spare → passes_limit self.old.history event ≡ false → IsOk result }
     {
-        if self.is_full_for(&event) {
-            return Err(PushFault::Full);
-        }
-        let weight = event.weight() as u32;
-        self.events.push(event)?;
-        self.weight += weight;
+        self.prepare(&event)?;
+        self.push_reserved(event);
         Ok(())
     }
 
     /// Sees that a push of the event will succeed, or says why it would not. The history is as
-    /// before, and after Ok the next push is Ok where it is of an event of this weight.
+    /// before, and after Ok a place is spare. Full comes exactly where the event would pass a limit.
+    /// Where a place is spare already, no memory is taken.
     pub fn prepare(&mut self, event: &Event) -> Result<(), PushFault>
         requires { IsSome self.old.history.config }
         ensures same { self.new.history ≡ self.old.history }
         ensures ok { OnOk result (0 < self.new.spare) }
         ensures full { IsErrOf result PushFault.Full ↔ (passes_limit self.old.history event.now ≡ true) }
+        ensures prepared { 0 < self.old.spare → passes_limit self.old.history event.now ≡ false → IsOk result }
     {
         if self.is_full_for(event) {
             return Err(PushFault::Full);
         }
         self.events.reserve(1)?;
         Ok(())
+    }
+
+    /// Puts the event behind the others, for which a place is spare and which passes no limit, as
+    /// after `prepare`. It takes no memory.
+    pub fn push_reserved(&mut self, event: Event)
+        requires started { IsSome self.old.history.config }
+        requires spare { 0 < self.old.spare }
+        requires room { passes_limit self.old.history event ≡ false }
+        ensures { self.new.history ≡ with_event self.old.history event }
+    {
+        let weight = event.weight() as u32;
+        self.events.push_reserved(event);
+        self.weight += weight;
     }
 
     /// Whether the event would pass a limit of the journal.
@@ -118,10 +129,12 @@ impl Journal {
         self.idle.push(Idle { place, line })
     }
 
-    /// How many events there are.
+    /// How many events there are. The idle notes stand in the order of their places, none behind
+    /// the last event.
     pub fn len(&self) -> u32
         ensures len { result ≡ length self.now.history.events }
         ensures few { result ≤ MOST_EVENTS }
+        ensures placed { are_placed 0 (length self.now.history.events) self.now.history.idle ≡ true }
     {
         self.events.len() as u32
     }

@@ -15,7 +15,7 @@ invariant_of-self c =
       some_live = c.self.invariant.some_live;
       numbered = omega (arith, numbered, ap (λ t. t.id) c.replace-before.ensures.after);
       known = λ node id has. inr (all_have c.requires.0 c.args.self.now c.args.next c.requires.1 node id (ap (λ v. map_of.get v.installed node) (sym c.self.view_is) ∙ has)
-      ∙ ap (λ v. v.newest.id) (sym c.self.view_is) ∙ ap (λ (t : Topology). t.id) (sym c.replace-before.ensures.value));
+          ∙ ap (λ v. v.newest.id) (sym c.self.view_is) ∙ ap (λ (t : Topology). t.id) (sym c.replace-before.ensures.value));
     }
 
 pub returns : goal.returns

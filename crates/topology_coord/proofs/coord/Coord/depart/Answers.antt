@@ -26,7 +26,7 @@ invariant_of-self c =
       some_live = subst (λ m. 0 < length (map_of.keys m)) (sym c.remove-2.ensures) (live_left c.self.inside.installed c.args.n live more);
       numbered = c.self.invariant.numbered;
       known = subst (λ m. HaveEither m c.self.inside.newest.id c.self.inside.before.id) (sym c.remove-2.ensures)
-      (either_left c.self.inside.installed c.args.n c.self.inside.newest.id c.self.inside.before.id c.self.invariant.known);
+          (either_left c.self.inside.installed c.args.n c.self.inside.newest.id c.self.inside.before.id c.self.invariant.known);
     }
 
 pub returns-clause-departs : goal.returns-clause-departs

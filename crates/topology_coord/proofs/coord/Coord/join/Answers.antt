@@ -13,7 +13,7 @@ invariant_of-self c = record {
   some_live = subst (λ m. 0 < length (map_of.keys m)) (sym c.put.ensures) (live_more c.self.inside.installed c.args.n c.id.result);
   numbered = c.self.invariant.numbered;
   known = subst (λ m. HaveEither m c.self.inside.newest.id c.self.inside.before.id) (sym (c.put.ensures ∙ ap (map_of.insert c.self.inside.installed c.args.n) c.id.ensures))
-  (either_more c.self.inside.installed c.args.n c.self.inside.newest.id c.self.inside.before.id c.self.invariant.known);
+      (either_more c.self.inside.installed c.args.n c.self.inside.newest.id c.self.inside.before.id c.self.invariant.known);
 }
 
 pub returns : goal.returns
