@@ -1,5 +1,5 @@
 use Rattle.std.proofs.Common.{IsSome}
-use Rattle.text_rows.proofs.runs.journal_of.Given as goal
+use Rattle.journal_rows.proofs.runs.journal_of.Given as goal
 
 -- the journal is started
 abbrev pub invariant-loop-line : goal.invariant-loop-line
