@@ -12,5 +12,6 @@ pub and_right : (a b : Bool) → (a && b) ≡ true → b ≡ true
 and_right true b h = h
 and_right false b h = absurd (cc)
 
+-- a number that tests as less is less
 pub less_than : (m n : ℕ) → nat_lt m n ≡ true → m < n
 less_than m n h = grind (arith, nat_tests)

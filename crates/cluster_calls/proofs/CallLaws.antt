@@ -19,6 +19,7 @@ use Rattle.cluster_calls.specs.Takings.{IsSeen, taken_in}
 pub none_seen : (request : Request) (taken : List Taken) (passed : Passed) → request.rounds < 256 → taken ≡ [] → passed ≡ set_of.empty → IsSeen request taken passed
 none_seen request taken passed fits none empty = record { stated = fits; seen = λ exact s k. ap (λ p. has_passed p s k) empty ∙ set_of.contains-empty _ (s, k) ∙ ap (λ (t : List Taken). was_taken t s k) (sym none) }
 
+-- either of three tests passes however they are grouped
 or_grouped : (a b c : Bool) → (a || (b || c)) ≡ ((a || b) || c)
 or_grouped true b c = refl
 or_grouped false b c = refl
@@ -30,6 +31,7 @@ was_taken-append (t ∷ taken) more s k =
     ap (λ b. ((t.segment == s) && same_bytes t.entry_of.key k) || b) (was_taken-append taken more s k)
     ∙ or_grouped ((t.segment == s) && same_bytes t.entry_of.key k) (was_taken taken s k) (was_taken more s k)
 
+-- numbers are compared either way round
 flipped : (x y : ℕ) → (x == y) ≡ (y == x)
 flipped x y = grind (arith, nat_tests)
 
@@ -40,10 +42,12 @@ turned [] (y ∷ b) = refl
 turned (x ∷ a) [] = refl
 turned (x ∷ a) (y ∷ b) = λ i. flipped x y i && turned a b i
 
+-- a test and one that fails, together, fail
 and_false : (b : Bool) → (b && false) ≡ false
 and_false true = refl
 and_false false = refl
 
+-- a test joined with either of two is joined with one of them
 spread : (a b c : Bool) → ((a && b) || (a && c)) ≡ (a && (b || c))
 spread true b c = refl
 spread false b c = refl
@@ -55,6 +59,7 @@ was_taken-in segment (e ∷ entries) s k =
     (λ i. (flipped segment s i && turned e.key k i) || was_taken-in segment entries s k i)
     ∙ spread (s == segment) (same_bytes k e.key) (list_any (λ (e : Entry). same_bytes k e.key) entries)
 
+-- either of two tests passes in any order
 or_turned : (a b : Bool) → (a || b) ≡ (b || a)
 or_turned true true = refl
 or_turned true false = refl
@@ -74,6 +79,7 @@ taken_seen request taken passed after segment entries kept is = record {
       ∙ sym (was_taken-append taken (taken_in segment entries) s k);
 }
 
+-- the rounds that a guarantee grants fit a byte
 by_guarantee : (guarantee : Guarantee) (rounds : ℕ) → rounds < 256 → granted_rounds guarantee rounds < 256
 by_guarantee Exact rounds fits = fits
 by_guarantee AtLeast rounds fits = fits
@@ -83,10 +89,12 @@ by_guarantee AtMost rounds fits = omega arith
 pub granted_fits : (request : Request) → request.rounds < 256 → granted_rounds request.guarantee request.rounds < 256
 granted_fits request fits = by_guarantee request.guarantee request.rounds fits
 
+-- a filter that all pass leaves the batch
 all_pass : (batch : List Entry) → filter (λ (e : Entry). true) batch ≡ batch
 all_pass [] = refl
 all_pass (e ∷ batch) = ap (λ es. e ∷ es) (all_pass batch)
 
+-- what isn't known passes: of an exact walk the new entries, else all
 passing_by : (exact : Bool) (p : Entry → Bool) (batch : List Entry) → filter (λ (e : Entry). not (exact && p e)) batch ≡ (if exact then filter (λ (e : Entry). not (p e)) batch else batch)
 passing_by true p batch = refl
 passing_by false p batch = all_pass batch

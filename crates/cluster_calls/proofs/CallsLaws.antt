@@ -108,6 +108,7 @@ asked_open (Refused at) h = absurd (cc)
 asked_open (Lost at) h = absurd (cc)
 asked_open Ended h = absurd (cc)
 
+-- a state that tests as running is Running
 pub running_is : (state : UnitState) → is_running state ≡ true → state ≡ Running
 running_is Asked h = absurd (cc)
 running_is Running h = refl
@@ -120,10 +121,12 @@ pub record MayEnd (u : Unit) : Type 0 where
   pub running : u.work.state ≡ Running
   pub landed : u.flying ≡ None
 
+-- what tests as none is none
 none_is : {A : Type 0} (o : Option A) → is_none o ≡ true → o ≡ None
 none_is None h = refl
 none_is (Some x) h = absurd (cc)
 
+-- a unit that tests as one that may end may
 pub may_end_is : (u : Unit) → may_end u ≡ true → MayEnd u
 may_end_is u h =
     let rest = and_right (is_running u.work.state) (u.work.last && is_none u.flying) h in
@@ -132,6 +135,7 @@ may_end_is u h =
       landed = none_is u.flying (and_right u.work.last (is_none u.flying) rest);
     }
 
+-- so may one that may read
 pub may_read_is : (u : Unit) → may_read u ≡ true → MayEnd u
 may_read_is u h =
     let rest = and_right (is_running u.work.state) (not u.work.last && is_none u.flying) h in
@@ -170,13 +174,16 @@ changed_seen fields kept number i u after table change place positive at is call
     ((λ k. slice_set fields.units.items (place k) (is k)) ∙ sym (with_unit-there fields.units.items number u change (numbers fields kept) positive at))
     calls
 
+-- the row of a number passes a test that each row of that number passes
 is_one_row : (test : Row → Bool) (rows : Rows) (n : ℕ) (o : Option Row) → map_of.get rows n ≡ o → is_some o ≡ true → ((row : Row) → map_of.get rows n ≡ Some row → test row ≡ true) → is_one test o ≡ true
 is_one_row test rows n None at some_ h = absurd (cc)
 is_one_row test rows n (Some row) at some_ h = h row at
 
+-- a number and none before it is the number
 plus_zero : (n : ℕ) → 0 + n ≡ n
 plus_zero n = omega arith
 
+-- a number that is less tests as less
 below : {m n : ℕ} → m < n → nat_lt m n ≡ true
 below l = grind (arith, nat_tests)
 
@@ -185,6 +192,7 @@ within_parts : (segments : ℕ) (units : List Unit) (n : ℕ) (call : Call) (s :
 within_parts segments units n call s None l has = refl
 within_parts segments units n call s (Some parts) l has = let wide = has.wide in let inside : s < segments_of parts.booked = omega (arith, wide, l) in below inside
 
+-- the row of an open unit's call may close the unit's segment
 may_close_row : (segments : ℕ) (units : List Unit) (rows : Rows) (i : ℕ) (u : Unit) → AreRight segments units rows → ArePieced segments units rows → slice_get units i ≡ Some u → is_open_unit u ≡ true
     → (row : Row) → map_of.get rows u.work.call ≡ Some row → may_close u.work.segment row ≡ true
 may_close_row segments units rows i u right pieced at open_ row g =
@@ -228,6 +236,7 @@ open_not_ended (Refused at) h = refl
 open_not_ended (Lost at) h = refl
 open_not_ended Ended h = absurd (cc)
 
+-- a running unit is open
 pub running_open : (state : UnitState) → is_running state ≡ true → is_open state ≡ true
 running_open Asked h = refl
 running_open Running h = refl
@@ -235,6 +244,7 @@ running_open (Refused at) h = absurd (cc)
 running_open (Lost at) h = absurd (cc)
 running_open Ended h = absurd (cc)
 
+-- nothing stands at any place of an empty list
 none_there : {X : Type 0} {P : Type 0} (xs : List X) (i : ℕ) (x : X) → xs ≡ [] → slice_get xs i ≡ Some x → P
 none_there xs i x none at = not_some x (sym (ap (λ (ys : List _). slice_get ys i) none) ∙ at)
 
@@ -270,10 +280,12 @@ no_calls_in = map_of.same_map nat_cmp_total nat_cmp-IsAntisymmetric _ _ (λ q.
 abbrev pub IsFoundWithin : Calling → ℕ → Type 0
 IsFoundWithin x n = (u : Unit) → unit_in x.units n ≡ Some u → (u.work.segment < x.segments) × (is_some (call_of x u.work.call) ≡ true)
 
+-- a row's call is there exactly where the row is
 mapped_there : (o : Option Row) → is_some (option_map (λ (r : Row). r.call) o) ≡ is_some o
 mapped_there None = refl
 mapped_there (Some row) = refl
 
+-- a unit that is found has a number within the list
 pub found_within : (fields : Inside) → IsCalls fields → (n : ℕ) → IsFoundWithin (calling_of fields) n
 found_within fields kept n u is =
     let place = find_place (λ (x : Unit). x.work.id == n) fields.units.items u is in

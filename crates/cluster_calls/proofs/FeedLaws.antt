@@ -13,6 +13,7 @@ use Rattle.pipeline_feed.specs.Fed.{Elements, IsFed}
 use Rattle.cluster_model.specs.State.{Taken}
 use Rattle.cluster_calls.specs.Takings.{IsFollowing, entries_in, taken_in}
 
+-- a pipeline makes nothing of no items
 ops_nothing : (ops : List Op) → [] ≡ ops_items ops []
 ops_nothing [] = refl
 ops_nothing (op.Filter e ∷ ops) = ops_nothing ops
@@ -29,6 +30,7 @@ none_followed pipeline taken feed none fed = record {
   given_of = ap length (ops_nothing pipeline.ops) ∙ ap (λ (t : List Taken). length (pipe_items pipeline (entries_in t))) (sym none);
 }
 
+-- the entries of what was taken on a segment are those entries
 entries_of : (segment : ℕ) (entries : List Entry) → entries_in (taken_in segment entries) ≡ entries
 entries_of segment [] = refl
 entries_of segment (e ∷ entries) = ap (λ es. e ∷ es) (entries_of segment entries)

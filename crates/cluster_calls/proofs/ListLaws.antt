@@ -10,17 +10,21 @@ use Rattle.std.specs.Prelude.{slice_get, slice_set}
 pub same_some : {X : Type 0} (x y : X) → Some x ≡ Some y → x ≡ y
 same_some x y h = cc
 
+-- what is there isn't none
 pub not_some : {X : Type 0} {P : Type 0} (x : X) → None ≡ Some x → P
 not_some x h = absurd (cc)
 
+-- either of three tests passes however they are grouped
 or_grouped : (a b c : Bool) → (a || (b || c)) ≡ ((a || b) || c)
 or_grouped true b c = refl
 or_grouped false b c = refl
 
+-- one of two tests passes where the second does
 or_true : (b : Bool) → (b || true) ≡ true
 or_true true = refl
 or_true false = refl
 
+-- equal tests choose the same
 pub cond_same : {A : Type 0} (b c : Bool) (x y : A) → b ≡ c → cond b x y ≡ cond c x y
 cond_same b c x y h = ap (λ t. cond t x y) h
 
@@ -29,10 +33,12 @@ abbrev pub one : Bool → ℕ
 one true = 1
 one false = 0
 
+-- a test or one that fails is the test
 or_false : (a b : Bool) → b ≡ false → (a || b) ≡ a
 or_false true b h = refl
 or_false false b h = h
 
+-- either of three tests passes in another order
 or_swapped : (a b c : Bool) → (a || (b || c)) ≡ (b || (a || c))
 or_swapped true true c = refl
 or_swapped true false c = refl

@@ -29,6 +29,7 @@ use Rattle.cluster_calls.proofs.RowTables.{equal, tied}
 pub get-put_in : (registered : Registered) (unit : ℕ) (place : Place) (n : ℕ) → map_of.get (map_of.insert registered unit place) n ≡ cond (n == unit) (Some place) (map_of.get registered n)
 get-put_in registered unit place n = map_of.get-insert nat_cmp_total registered unit place n ∙ ap (λ b. cond b (Some place) (map_of.get registered n)) (tied n unit)
 
+-- a unit that is taken out is registered nowhere, and any other where it was
 pub get-taken_out : (registered : Registered) (unit n : ℕ) → map_of.get (map_of.remove registered unit) n ≡ cond (n == unit) None (map_of.get registered n)
 get-taken_out registered unit n = map_of.get-remove nat_cmp_total registered unit n ∙ ap (λ b. cond b None (map_of.get registered n)) (tied n unit)
 
@@ -92,6 +93,7 @@ get-push_last : (units : List Unit) (v : Unit) → slice_get (units ++ v ∷ [])
 get-push_last [] v = refl
 get-push_last (u ∷ units) v = get-push_last units v
 
+-- a list that grows has the same at every other place
 get-push_other : (units : List Unit) (v : Unit) (j : ℕ) → j ≢ length units → slice_get (units ++ v ∷ []) j ≡ slice_get units j
 get-push_other [] v zero apart = absurd (apart refl)
 get-push_other [] v (suc j) apart = refl
@@ -125,13 +127,16 @@ registered_push units registered v number place kept is open_ n = get-put_in reg
 head_number : (ask : Ask) (asks : List Ask) (start : ℕ) → map (λ (a : Ask). a.unit) (ask ∷ asks) ≡ range_with_len start (length (ask ∷ asks)) → ask.unit ≡ start
 head_number ask asks start h = same_some ask.unit start (ap (λ ns. slice_get ns 0) h)
 
+-- a list without its first element
 abbrev tail_of : List ℕ → List ℕ
 tail_of [] = []
 tail_of (n ∷ ns) = ns
 
+-- the units of the asks behind the first are numbered from the next number on
 tail_numbers : (ask : Ask) (asks : List Ask) (start : ℕ) → map (λ (a : Ask). a.unit) (ask ∷ asks) ≡ range_with_len start (length (ask ∷ asks)) → map (λ (a : Ask). a.unit) asks ≡ range_with_len (start + 1) (length asks)
 tail_numbers ask asks start h = ap tail_of h
 
+-- a list that grows has one element more
 pushed_length : (units : List Unit) (v : Unit) → length (units ++ v ∷ []) ≡ length units + 1
 pushed_length units v = length-append units (v ∷ [])
 
@@ -195,14 +200,17 @@ get-without registered (ask ∷ asks) n =
     by true false d o h = ap (λ e. cond (e || true) None o) h
     by false false d o h = ap (λ e. cond (e || false) None o) h
 
+-- where neither of two tests passes the first doesn't
 or_first : (a b : Bool) → (a || b) ≡ false → a ≡ false
 or_first true b h = absurd (cc)
 or_first false b h = refl
 
+-- nor does the second
 or_second : (a b : Bool) → (a || b) ≡ false → b ≡ false
 or_second true b h = absurd (cc)
 or_second false b h = h
 
+-- a place that isn't there is none
 not_there : (o : Option Place) → not (is_some o) ≡ true → o ≡ None
 not_there None h = refl
 not_there (Some p) h = absurd (cc)
@@ -254,9 +262,11 @@ drop_more {X = X} xs k x at = by xs k at ∙ ap (λ n. x ∷ drop n xs) (sym (ad
 abbrev lost_by : ℕ → set_of.FinSet nat_cmp → Option Place → Bool
 lost_by node segments o = option_map_or (λ (place : Place). (node == place.node) && set_of.contains segments place.segment) o false
 
+-- nodes are compared either way round
 flip_node : (a b : ℕ) → (a == b) ≡ (b == a)
 flip_node a b = grind (arith, nat_tests)
 
+-- a unit that is lost there has a number within the list
 lost_there : (units : List Unit) (node : ℕ) (segments : set_of.FinSet nat_cmp) (n : ℕ) → lost_by node segments (place_at units n) ≡ true → (1 ≤ n) × (n ≤ length units)
 lost_there units node segments zero h = absurd (let e : false ≡ true = h in cc)
 lost_there units node segments (suc i) h = by (slice_get units i) refl h
@@ -265,6 +275,7 @@ lost_there units node segments (suc i) h = by (slice_get units i) refl h
     by None at e = absurd (let wrong : false ≡ true = e in cc)
     by (Some u) at e = (omega arith, omega (arith, within_get units i u at))
 
+-- an open unit on a lost segment at the node is lost there
 lost_open : (node : ℕ) (segments : set_of.FinSet nat_cmp) (u : Unit) → is_open_at node segments u ≡ true → lost_by node segments (open_place u) ≡ true
 lost_open node segments u h =
     let open_ = and_left (is_open_unit u) ((u.work.node == node) && set_of.contains segments u.work.segment) h in
@@ -366,6 +377,7 @@ pub grown : {X A E : Type 0} (result : Result A E) (xs ys zs : List X) → is_er
 grown (Ok a) xs ys zs h e = e
 grown (Err f) xs ys zs h e = absurd (cc)
 
+-- a list that may have grown is as before where there was a fault
 pub not_grown : {X A E : Type 0} (result : Result A E) (xs ys zs : List X) → is_err result ≡ true → zs ≡ (if is_ok result then xs else ys) → zs ≡ ys
 not_grown (Ok a) xs ys zs h e = absurd (cc)
 not_grown (Err f) xs ys zs h e = e

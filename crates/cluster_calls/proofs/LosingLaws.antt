@@ -103,6 +103,7 @@ pub map-stays : (passes : Unit → Bool) (at : Option ℕ) (units : List Unit) �
 map-stays passes at [] none = refl
 map-stays passes at (u ∷ units) none = λ k. stays passes at u (none 0 u refl) k ∷ map-stays passes at units (λ i z h. none (suc i) z h) k
 
+-- a test that can't pass fails
 refuted : (b : Bool) → (b ≡ true → ⊥) → b ≡ false
 refuted true h = absurd (h refl)
 refuted false h = refl

@@ -11,6 +11,7 @@ use Rattle.cluster_calls.specs.Rows.{notes}
 use Rattle.cluster_calls.specs.declared.row.Row.{Row}
 use Rattle.cluster_calls.proofs.SetLaws.{among-filter, in_items, same_notes}
 
+-- a row that notes losses is the row of the call that notes them
 noted_same : (lost : set_of.FinSet nat_cmp) (units : List Unit) (segments : List ℕ) (q : ℕ) (row : Row) → ((s : ℕ) → set_of.contains lost s ≡ among s segments)
     → ((s : ℕ) → set_of.contains row.tally.complete s ≡ is_complete units q s) → (notes lost row).call ≡ notes_losses units segments q row.call
 noted_same lost units segments q row alike complete =

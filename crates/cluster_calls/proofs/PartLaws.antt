@@ -40,6 +40,7 @@ unbooked_by guarantee (Refused at) h = refl
 unbooked_by guarantee (Lost at) h = absurd (cc)
 unbooked_by guarantee Ended h = absurd (cc)
 
+-- an open unit isn't booked
 pub open_unbooked : (call : Call) (u : Unit) → is_open_unit u ≡ true → is_booked call u ≡ false
 open_unbooked call u h = unbooked_by call.request.guarantee u.work.state h
 

@@ -16,6 +16,7 @@ filter-set_out p (z ∷ xs) zero x y h was is =
     ap (λ b. cond b (y ∷ filter p xs) (filter p xs)) is ∙ sym (ap (λ b. cond b (z ∷ filter p xs) (filter p xs)) (ap p (same_some z x h) ∙ was))
 filter-set_out p (z ∷ xs) (suc i) x y h was is = ap (λ ys. cond (p z) (z ∷ ys) ys) (filter-set_out p xs i x y h was is)
 
+-- an element behind a list stands behind it with or without one in front
 pushed : {X : Type 0} (b : Bool) (z y : X) (xs : List X) → cond b (z ∷ (xs ++ y ∷ [])) (xs ++ y ∷ []) ≡ cond b (z ∷ xs) xs ++ y ∷ []
 pushed true z y xs = refl
 pushed false z y xs = refl
@@ -68,6 +69,7 @@ index-map_range f y s k a zero at l = absurd (omega arith)
 index-map_range f y s zero a (suc n) at l = let here : a ≡ s = omega (arith, at) in ap f here
 index-map_range f y s (suc k) a (suc n) at l = index-map_range f y s k (a + 1) n (omega (arith, at)) (omega (arith, l))
 
+-- the first elements through a function, with one more
 map-take_suc : {X Y : Type 0} (f : X → Y) (xs : List X) (k : ℕ) (x : X) → slice_get xs k ≡ Some x → map f (take k xs) ++ f x ∷ [] ≡ map f (take (suc k) xs)
 map-take_suc f [] k x at = not_some x at
 map-take_suc f (z ∷ xs) zero x at = ap (λ y. f y ∷ []) (sym (same_some z x at))

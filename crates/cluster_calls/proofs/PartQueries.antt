@@ -31,10 +31,12 @@ use Rattle.cluster_calls.proofs.RowTables.{get-calls_in}
 use Rattle.cluster_calls.proofs.BothLaws.{and_left, and_right}
 use Rattle.cluster_calls.proofs.UnitLaws.{is_busy}
 
+-- a choice between none and none is none
 cond_none : {A : Type 0} (b : Bool) (o : Option A) → o ≡ None → None ≡ cond b o None
 cond_none true o h = sym h
 cond_none false o h = refl
 
+-- nothing is booked past the last segment
 past_by : (segments : ℕ) (units : List Unit) (rows : Rows) (n s : ℕ) → AreRight segments units rows → segments ≤ s → (o : Option Call) → None ≡ part_by units n s o
 past_by segments units rows n s right past None = refl
 past_by segments units rows n s right past (Some call) =
@@ -56,6 +58,7 @@ abbrev lent_part : Option Parts → ℕ → Option Piece
 lent_part None s = None
 lent_part (Some parts) s = booked_for parts.booked s
 
+-- what is lent of a call's parts is the part of the segment, where parts are kept
 lent_by : (segments : ℕ) (units : List Unit) (n : ℕ) (call : Call) (s : ℕ) (o : Option Parts) → s < segments → HasParts segments units n call o → lent_part o s ≡ cond (is_parted call) (part_on units n call s) None
 lent_by segments units n call s None l has = sym (ap (λ b. cond b (part_on units n call s) None) has)
 lent_by segments units n call s (Some parts) l has =
@@ -63,6 +66,7 @@ lent_by segments units n call s (Some parts) l has =
     ∙ index-map_range (part_on units n call) None s s 0 segments (omega arith) l
     ∙ sym (ap (λ b. cond b (part_on units n call s) None) has.parted)
 
+-- what is lent of a row's parts is the part that the state says
 part_of_row : (segments : ℕ) (units : List Unit) (rows : Rows) (n s : ℕ) (row : Row) → ArePieced segments units rows → s < segments → map_of.get rows n ≡ Some row
     → lent_part row.parts s ≡ part_in (record { segments = segments; units = units; calls = calls_in rows }) n s
 part_of_row segments units rows n s row pieced l at =
@@ -120,6 +124,7 @@ some_booking segments units rows v row parts more pieced l at some_ booked is =
     ∙ sym (ap (λ b. cond b (Some all) None) (both_true (is_parted row.call) (is_booked row.call v) has.parted booked))
     ∙ sym (booking_row segments units rows v row at)
 
+-- where what lost units read counts, a lost unit is booked as an ended one is
 lost_as_ended : (units : List Unit) (u : Unit) (at : Option ℕ) (call : Call) → keeps_lost call.request.guarantee ≡ true
     → booking units (record u { work = ended u.work }) call ≡ booking units (with_loss at u) call
 lost_as_ended units u at call keeps =
@@ -149,6 +154,7 @@ all_at f [] i x at h = not_some x at
 all_at f (z ∷ xs) zero x at h = ap f (sym (same_some z x at)) ∙ and_left (f z) (list_all f xs) h
 all_at f (z ∷ xs) (suc i) x at h = all_at f xs i x at (and_right (f z) (list_all f xs) h)
 
+-- a number and none before it is the number
 plus_zero : (n : ℕ) → 0 + n ≡ n
 plus_zero n = omega arith
 

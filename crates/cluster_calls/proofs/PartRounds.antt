@@ -66,6 +66,7 @@ pieced_invoke segments units rows number originator request tally right pieced a
         (subst (λ m. HasParts segments units m (new_call originator request) (made_parts segments request)) (sym (equal n number tie)) has)
     kept_by n row false apart at = pieced.parts n row at
 
+-- a number that isn't below another is at least the other
 not_below : (i j : ℕ) → (i < j → ⊥) → j ≤ i
 not_below i j h =
     elim (nat_lt i j) as (λ t. nat_lt i j ≡ t → j ≤ i) [

@@ -29,9 +29,11 @@ use Rattle.cluster_calls.proofs.UnitLaws.{has_done}
 pub find_zero : (units : List Unit) → AreNumbered units → unit_in units 0 ≡ None
 find_zero units numbers = find_none (λ (u : Unit). u.work.id == 0) units (λ i u at. let id = numbers i u at in grind (arith, nat_tests))
 
+-- the unit of a number stands at the place before it
 one_place : (n i j m : ℕ) → 1 ≤ n → m ≡ j + 1 → (m == n) ≡ true → j ≡ n - 1
 one_place n i j m l e tie = let same = equal m n tie in omega (arith, same, e, l)
 
+-- what stands at the place before a number is the unit of the number
 found : (units : List Unit) (n : ℕ) (o : Option Unit) → AreNumbered units → 1 ≤ n → slice_get units (n - 1) ≡ o → unit_in units n ≡ o
 found units n None numbers l at =
     find_none (λ (u : Unit). u.work.id == n) units (λ i u here.
@@ -48,6 +50,7 @@ found units n (Some u) numbers l at =
 pub find_unit : (units : List Unit) (n : ℕ) → AreNumbered units → 1 ≤ n → unit_in units n ≡ slice_get units (n - 1)
 find_unit units n numbers l = found units n (slice_get units (n - 1)) numbers l refl
 
+-- one of a list passes exactly where not none of it is counted
 counted : {X : Type 0} (p : X → Bool) (x : X) (xs : List X) (b : Bool) → list_any p xs ≡ not (count p xs == 0) → (b || list_any p xs) ≡ not ((one b + count p xs) == 0)
 counted p x xs true h = grind (arith, nat_tests)
 counted p x xs false h = let same : 0 + count p xs ≡ count p xs = omega arith in h ∙ ap (λ n. not (n == 0)) (sym same)
@@ -57,6 +60,7 @@ pub any_counted : {X : Type 0} (p : X → Bool) (xs : List X) → list_any p xs 
 any_counted p [] = refl
 any_counted p (x ∷ xs) = counted p x xs (p x) (any_counted p xs)
 
+-- all of a list pass exactly where none that fails is counted
 none_counted : {X : Type 0} (f : X → Bool) (x : X) (xs : List X) (b : Bool) → list_all f xs ≡ (count (λ y. not (f y)) xs == 0) → (b && list_all f xs) ≡ ((one (not b) + count (λ y. not (f y)) xs) == 0)
 none_counted f x xs true h = let same : 0 + count (λ y. not (f y)) xs ≡ count (λ y. not (f y)) xs = omega arith in h ∙ ap (λ n. n == 0) (sym same)
 none_counted f x xs false h = grind (arith, nat_tests)
@@ -82,6 +86,7 @@ none_complete segments units rows n right absent s =
     any_none (has_done n s) units (λ i u at.
     and_none (is_on n s u) (is_ended u.work.state) (and_none (is_of n u) (u.work.segment == s) (no_unit segments units rows n right absent i u at)))
 
+-- a segment below a bound isn't one past it
 apart_of : (m n s : ℕ) → s < m → m ≤ n → (s == n) ≡ false
 apart_of m n s l h = grind (arith, nat_tests)
 
@@ -89,6 +94,7 @@ apart_of m n s l h = grind (arith, nat_tests)
 pub no_segment : (segments : ℕ) (units : List Unit) (rows : Rows) (n s : ℕ) → AreRight segments units rows → segments ≤ s → (i : ℕ) (u : Unit) → slice_get units i ≡ Some u → is_on n s u ≡ false
 no_segment segments units rows n s right past i u at = and_none_right (is_of n u) (u.work.segment == s) (apart_of segments s u.work.segment (right.placed i u at).within past)
 
+-- no segment past the last is complete
 pub past_complete : (segments : ℕ) (units : List Unit) (rows : Rows) (n s : ℕ) → AreRight segments units rows → segments ≤ s → is_complete units n s ≡ false
 past_complete segments units rows n s right past =
     any_none (has_done n s) units (λ i u at. and_none (is_on n s u) (is_ended u.work.state) (no_segment segments units rows n s right past i u at))
@@ -100,15 +106,18 @@ first_here units n a m l h =
     ap (λ k. first_of (incomplete_from a k units n)) more
     ∙ ap (λ b. first_of (cond (not b) (a ∷ incomplete_from (a + 1) (m - (a + 1)) units n) (incomplete_from (a + 1) (m - (a + 1)) units n))) h
 
+-- a complete segment isn't the first incomplete one
 pub first_later : (units : List Unit) (n a m : ℕ) → a < m → is_complete units n a ≡ true → first_of (incomplete_from a (m - a) units n) ≡ first_of (incomplete_from (a + 1) (m - (a + 1)) units n)
 first_later units n a m l h =
     let more : m - a ≡ suc (m - (a + 1)) = omega (arith, l) in
     ap (λ k. first_of (incomplete_from a k units n)) more
     ∙ ap (λ b. first_of (cond (not b) (a ∷ incomplete_from (a + 1) (m - (a + 1)) units n) (incomplete_from (a + 1) (m - (a + 1)) units n))) h
 
+-- past the last segment none is incomplete
 pub first_none : (units : List Unit) (n a m : ℕ) → m ≤ a → first_of (incomplete_from a (m - a) units n) ≡ None
 first_none units n a m l = let none : m - a ≡ 0 = omega (arith, l) in ap (λ k. first_of (incomplete_from a k units n)) none
 
+-- what is found in two lists is found in one of them
 two_found : {X : Type 0} (p : X → Bool) (xs ys : List X) (x : X) → find p (xs ++ ys) ≡ Some x → (find p xs ≡ Some x) ⊎ (find p ys ≡ Some x)
 two_found p [] ys x h = inr h
 two_found p (z ∷ xs) ys x h =
@@ -130,6 +139,7 @@ found_behind p (z ∷ xs) x h =
     only_one zero g = g
     only_one (suc i) g = not_some x g
 
+-- the newest unit of a call on a segment is found by its number
 newest_by : (units : List Unit) (n s : ℕ) (o : Option Unit) → AreNumbered units → newest_in units n s ≡ o → unit_in units (number_of o) ≡ o
 newest_by units n s None numbers is = find_zero units numbers
 newest_by units n s (Some u) numbers is =

@@ -17,10 +17,12 @@ use Rattle.cluster_calls.proofs.ListLaws.{any-set_more, any-set_same, find_place
 use Rattle.cluster_calls.proofs.RowTables.{equal, get-put}
 use Rattle.cluster_calls.proofs.UnitLaws.{Alike, has_done, is_busy, tally_closed, tally_ended, tally_same}
 
+-- a test that fails and another, together, fail
 pub and_none : (a b : Bool) → a ≡ false → (a && b) ≡ false
 and_none true b h = absurd (cc)
 and_none false b h = refl
 
+-- a test and one that fails, together, fail
 pub and_none_right : (a b : Bool) → b ≡ false → (a && b) ≡ false
 and_none_right true b h = h
 and_none_right false b h = refl
@@ -138,6 +140,7 @@ got rows number change n None is =
     ] refl
 got rows number change n (Some row) is = get-put rows number (change row) n
 
+-- the changed row stands at its number, and any other row as before
 pub get-changed : (rows : Rows) (number : ℕ) (change : Row → Row) (n : ℕ) →
     map_of.get (changes_row number change rows) n ≡ cond (n == number) (option_map change (map_of.get rows number)) (map_of.get rows n)
 get-changed rows number change n = got rows number change n (map_of.get rows number) refl
@@ -204,6 +207,7 @@ after_same segments units rows i u v right h a runs open_ ended_ =
 pub of_other : (u v : Unit) (n c : ℕ) → Alike u v → u.work.call ≡ c → n ≢ c → (is_of n u ≡ false) × (is_of n v ≡ false)
 of_other u v n c a is apart = (grind (arith, nat_tests), let same = a.call in grind (arith, nat_tests))
 
+-- a unit that is replaced by one alike leaves the rows of other calls right
 other_row : (segments : ℕ) (units : List Unit) (i : ℕ) (u v : Unit) (n : ℕ) (row : Row) → slice_get units i ≡ Some u → Alike u v → n ≢ u.work.call
     → IsRow segments units n row → IsRow segments (slice_set units i v) n row
 other_row segments units i u v n row h a apart kept =
@@ -215,9 +219,11 @@ other_row segments units i u v n row h a apart kept =
     ∙ sym (and_none (is_on n s u) (is_ended u.work.state) (and_none (is_of n u) (u.work.segment == s) neither.0)))
     kept
 
+-- a number is itself
 pub itself : (n : ℕ) → (n == n) ≡ true
 itself n = grind (arith, nat_tests)
 
+-- two tests that pass, pass together
 pub both_true : (a b : Bool) → a ≡ true → b ≡ true → (a && b) ≡ true
 both_true true b h g = g
 both_true false b h g = absurd (cc)
@@ -240,6 +246,7 @@ after_closed segments units rows i u v s made right h a runs was gone ended_ =
       | inr e ↦ other_row segments units i u v n row h a e.0 (right.kept n row e.1)
     ])
 
+-- a test of one call is a test of the segment
 only_segment : (c m s : ℕ) → (((c == c) && (m == s)) && true) ≡ (s == m)
 only_segment c m s = grind (arith, nat_tests)
 
@@ -319,6 +326,7 @@ pub record There (units : List Unit) (number : ℕ) (test : Unit → Bool) : Typ
   pub found : unit_in units number ≡ Some unit
   pub numbered : unit.work.id ≡ number
 
+-- a unit that is found and passes a test is there
 there_is : (units : List Unit) (number : ℕ) (test : Unit → Bool) (u : Unit) → AreNumbered units → unit_in units number ≡ Some u → test u ≡ true → There units number test
 there_is units number test u numbers is passes =
     let place = find_place (λ (x : Unit). x.work.id == number) units u is in
@@ -333,10 +341,12 @@ there_is units number test u numbers is passes =
       numbered = id;
     }
 
+-- and so is one that may be found, where one is that passes
 there_by : (units : List Unit) (number : ℕ) (test : Unit → Bool) (o : Option Unit) → AreNumbered units → unit_in units number ≡ o → is_one test o ≡ true → There units number test
 there_by units number test None numbers is h = absurd (cc)
 there_by units number test (Some u) numbers is h = there_is units number test u numbers is h
 
+-- a unit that passes a test is there
 pub there : (units : List Unit) (number : ℕ) (test : Unit → Bool) → AreNumbered units → is_one test (unit_in units number) ≡ true → There units number test
 there units number test numbers h = there_by units number test (unit_in units number) numbers refl h
 

@@ -54,6 +54,7 @@ get-range a zero k l = absurd (omega arith)
 get-range a (suc n) zero l = let e : a ≡ a + 0 = omega arith in ap Some e
 get-range a (suc n) (suc k) l = let e : (a + 1) + k ≡ a + suc k = omega arith in get-range (a + 1) n k (omega (arith, l)) ∙ ap Some e
 
+-- each place of a repeated element has it
 replicated : {X : Type 0} (x : X) (n k : ℕ) → k < n → slice_get (replicate n x) k ≡ Some x
 replicated x zero k l = absurd (omega arith)
 replicated x (suc n) zero l = refl
@@ -104,6 +105,7 @@ fresh_round units number originator request none = record {
     no_busy : (i : ℕ) (u : Unit) → slice_get units i ≡ Some u → is_busy number u ≡ true → ⊥
     no_busy i u at is = let e = sym is ∙ and_none (is_of number u) (is_open_unit u) (none i u at) in cc
 
+-- a row that is put is there
 put_there : (o : Option Row) (b : Bool) (row : Row) → is_some o ≡ true → is_some (cond b (Some row) o) ≡ true
 put_there o true row h = refl
 put_there o false row h = h
@@ -187,6 +189,7 @@ find_past p (x ∷ xs) ys h =
       | false ↦ λ k. find_past p xs ys k
     ] h
 
+-- a test or one that fails is the test
 or_none : (a b : Bool) → b ≡ false → (a || b) ≡ a
 or_none true b h = refl
 or_none false b h = h
@@ -254,6 +257,7 @@ round_more units more n call none kept = record {
 asked_one : Ask → Tallied → Tallied
 asked_one ask t = record t { unended = t.unended + 1; newest = slice_set t.newest ask.segment ask.unit }
 
+-- a tally stays right with a unit more
 tally_one : (segments : ℕ) (units : List Unit) (n id : ℕ) (t : Tallied) (ask : Ask) → ask.segment < segments → IsTally segments units n t → IsTally segments (units ++ unit_made n id ask ∷ []) n (asked_one ask t)
 unfolding asked_one
 tally_one segments units n id t ask inside kept = record {
@@ -309,6 +313,7 @@ tally_asks segments (ask ∷ asks) units n id t inside kept =
       newest = rest.newest;
     })
 
+-- what is there through a function comes of something there
 pub mapped_at : {X Y : Type 0} (f : X → Y) (o : Option X) (y : Y) → option_map f o ≡ Some y → (x : X) × (o ≡ Some x) × (y ≡ f x)
 mapped_at f None y h = not_some y h
 mapped_at f (Some x) y h = (x, refl, sym (same_some (f x) y h))
@@ -325,10 +330,12 @@ pub record IsAsk (segments : ℕ) (units : List Unit) (number k : ℕ) (a : Ask)
   pub within : a.segment < segments
   pub incomplete : is_complete units number a.segment ≡ false
 
+-- a test whose negation passes fails
 not_true : (b : Bool) → not b ≡ true → b ≡ false
 not_true true h = sym h
 not_true false h = refl
 
+-- each ask of a round is the next of its segment
 pub ask_at : (segments : ℕ) (units : List Unit) (number : ℕ) (asks : List Ask) (k : ℕ) (a : Ask) → AreNext segments units number asks → slice_get asks k ≡ Some a → IsAsk segments units number k a
 ask_at segments units number asks k a next at =
     let q = λ (s : ℕ). not (is_complete units number s) in
@@ -341,6 +348,7 @@ ask_at segments units number asks k a next at =
       incomplete = not_true (is_complete units number a.segment) segment.2;
     }
 
+-- the asks of a round ascend by their segments
 pub asks_ascend : (segments : ℕ) (units : List Unit) (number : ℕ) (asks : List Ask) (i j : ℕ) (a b : Ask) → AreNext segments units number asks → i < j → slice_get asks i ≡ Some a → slice_get asks j ≡ Some b → a.segment < b.segment
 asks_ascend segments units number asks i j a b next less at bt =
     let q = λ (s : ℕ). not (is_complete units number s) in

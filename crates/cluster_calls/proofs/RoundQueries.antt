@@ -42,6 +42,7 @@ filter_middle p (suc a) c (x ∷ xs) before here after =
     ap (λ b. cond b (x ∷ filter p xs) (filter p xs)) (before 0 x refl (omega arith))
     ∙ filter_middle p a c xs (λ i y e l. before (suc i) y e (omega (arith, l))) (λ i y e l m. here (suc i) y e (omega (arith, l)) (omega (arith, m))) (λ i y e l. after (suc i) y e (omega (arith, l)))
 
+-- a test fails where its passing is absurd
 refused : (b : Bool) {P : Type 0} → (b ≡ true → P) → (P → ⊥) → b ≡ false
 refused true g no_ = absurd (no_ (g refl))
 refused false g no_ = refl
@@ -72,12 +73,15 @@ get-stretch (suc a) c (y ∷ xs) i x h =
     let same : suc a + i ≡ suc (a + i) = omega arith in
     (ap (slice_get (y ∷ xs)) same ∙ rest.0, rest.1)
 
+-- different numbers test as different
 differ : (m n : ℕ) → m ≢ n → (m == n) ≡ false
 differ m n h = grind (arith, nat_tests)
 
+-- equal numbers test as equal
 same_test : (m n : ℕ) → m ≡ n → (m == n) ≡ true
 same_test m n h = grind (arith, nat_tests)
 
+-- one of two tests passes where the first does
 or_left : (a b : Bool) → a ≡ true → (a || b) ≡ true
 or_left true b h = refl
 or_left false b h = absurd (cc)
@@ -91,10 +95,12 @@ among_in x a (suc n) l m =
       | false ↦ λ e. let apart : a ≢ x = λ s. absurd (let t = sym (same_test a x s) ∙ e in cc) in among_in x (a + 1) n (omega (arith, apart, l)) (omega (arith, m))
     ] refl
 
+-- a smaller number isn't in a row
 among_below : (x a n : ℕ) → x < a → among x (range_with_len a n) ≡ false
 among_below x a zero l = refl
 among_below x a (suc n) l = λ i. differ a x (λ e. absurd (omega (arith, e, l))) i || among_below x (a + 1) n (omega (arith, l)) i
 
+-- nor is one past it
 among_above : (x a n : ℕ) → a + n ≤ x → among x (range_with_len a n) ≡ false
 among_above x a zero l = refl
 among_above x a (suc n) l = λ i. differ a x (λ e. absurd (omega (arith, e, l))) i || among_above x (a + 1) n (omega (arith, l)) i
@@ -103,10 +109,12 @@ among_above x a (suc n) l = λ i. differ a x (λ e. absurd (omega (arith, e, l))
 same_count : (a b m n : ℕ) → range_with_len a m ≡ range_with_len b n → m ≡ n
 same_count a b m n h = sym (length-range a m) ∙ ap length h ∙ length-range b n
 
+-- the first number of a list, or 0
 head_of : List ℕ → ℕ
 head_of [] = 0
 head_of (x ∷ xs) = x
 
+-- rows that are the same and not empty begin at one number
 same_start : (a b m n : ℕ) → 0 < m → 0 < n → range_with_len a m ≡ range_with_len b n → a ≡ b
 unfolding head_of
 same_start a b zero n l k h = absurd (omega arith)
@@ -120,6 +128,7 @@ pub record IsKept (units : List Unit) (number : ℕ) (call : Call) (start count 
   pub first : 0 < count → start ≡ round.start
   pub listed : call.last_round ≡ range_with_len start count
 
+-- a call's last round is a row of units of the call
 pub kept_is : (units : List Unit) (number : ℕ) (call : Call) (start count : ℕ) → IsRound units number call → call.last_round ≡ range_with_len start count → IsKept units number call start count
 kept_is units number call start count round listed =
     let many : count ≡ round.count = same_count start round.start count round.count (sym listed ∙ round.listed) in
@@ -159,6 +168,7 @@ flat_nothing : (f : ℕ → List Unit) (a n : ℕ) → ((s : ℕ) → f s ≡ []
 flat_nothing f a zero h = refl
 flat_nothing f a (suc n) h = λ i. h a i ++ flat_nothing f (a + 1) n h i
 
+-- an element in front, or none, joins a list
 joined : (b : Bool) (x : Unit) (xs : List Unit) → cond b (x ∷ []) [] ++ xs ≡ cond b (x ∷ xs) xs
 joined true x xs = refl
 joined false x xs = refl
@@ -167,6 +177,7 @@ joined false x xs = refl
 on_open : ℕ → ℕ → Unit → Bool
 on_open n s u = is_on n s u && is_open_unit u
 
+-- where the first unit isn't on a segment, all are on later ones
 past : (n lo : ℕ) (x : Unit) (xs : List Unit) → ((i : ℕ) (u : Unit) → slice_get (x ∷ xs) i ≡ Some u → lo ≤ u.work.segment)
     → ((i j : ℕ) (u v : Unit) → i < j → slice_get (x ∷ xs) i ≡ Some u → slice_get (x ∷ xs) j ≡ Some v → u.work.segment < v.work.segment)
     → x.work.segment ≢ lo → (i : ℕ) (u : Unit) → slice_get (x ∷ xs) i ≡ Some u → lo + 1 ≤ u.work.segment

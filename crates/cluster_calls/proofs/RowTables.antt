@@ -26,9 +26,11 @@ row_at es q = lookup (λ k. q == k) es
 pub same_number : (x y : ℕ) → eq_by_cmp nat_cmp x y ≡ true → x ≡ y
 same_number x y h = nat_cmp-IsAntisymmetric x y ((Equal-is (nat_cmp x y)).0 h)
 
+-- numbers tie where they are equal
 pub tied : (x y : ℕ) → eq_by_cmp nat_cmp x y ≡ (x == y)
 tied x y = sym (unsigned_ties x y)
 
+-- the row that a map finds is the one that a list finds
 find_row : {X : Type 0} (es : List (ℕ × X)) (q : ℕ) → map_of.find nat_cmp q es ≡ lookup (λ k. q == k) es
 find_row [] q = refl
 find_row (e ∷ es) q = (λ i. cond (tied q e.0 i) (Some e.1) (find_row es q i))
@@ -41,6 +43,7 @@ get_rows es q = map_of.get-from_entries nat_cmp_total es q ∙ find_row es q
 pub rows_are : (es : List (ℕ × Row)) (rows : Rows) → ((q : ℕ) → row_at es q ≡ map_of.get rows q) → rows_in es ≡ rows
 rows_are es rows h = map_of.same_map nat_cmp_total nat_cmp-IsAntisymmetric _ _ (λ q. get_rows es q ∙ h q)
 
+-- numbers are compared either way round
 flipped : (x y : ℕ) → (x == y) ≡ (y == x)
 flipped x y = grind (arith, nat_tests)
 
@@ -97,6 +100,7 @@ rows_mapped es fs change is = rows_are fs _ (λ q.
     ∙ ap (option_map change) (sym (get_rows es q))
     ∙ sym (get-each_row change (rows_in es) q))
 
+-- each call of a map is changed by itself
 changed_in : (f : ℕ → Call → Call) (cs : List (ℕ × Call)) (q : ℕ) → map_of.get (changed_calls f cs) q ≡ option_map (f q) (map_of.find nat_cmp q cs)
 changed_in f [] q = map_of.get-empty nat_cmp q
 changed_in f (c ∷ cs) q =
@@ -115,6 +119,7 @@ get-each_call f calls q = changed_in f (map_of.entries calls) q ∙ ap (option_m
 pub get-put : (rows : Rows) (number : ℕ) (row : Row) (q : ℕ) → map_of.get (map_of.insert rows number row) q ≡ cond (q == number) (Some row) (map_of.get rows q)
 get-put rows number row q = map_of.get-insert nat_cmp_total rows number row q ∙ ap (λ b. cond b (Some row) (map_of.get rows q)) (tied q number)
 
+-- the call of a row that may be put is that row's call
 call_put : (b : Bool) (row : Row) (o : Option Row) → option_map (λ (r : Row). r.call) (cond b (Some row) o) ≡ cond b (Some row.call) (option_map (λ (r : Row). r.call) o)
 call_put true row o = refl
 call_put false row o = refl
@@ -128,6 +133,7 @@ calls_in-insert rows number row = map_of.same_map nat_cmp_total nat_cmp-IsAntisy
     ∙ ap (cond (eq_by_cmp nat_cmp q number) (Some row.call)) (sym (get-calls_in rows q))
     ∙ sym (map_of.get-insert nat_cmp_total (calls_in rows) number row.call q))
 
+-- a row's change is a change of its call
 calls_with : (rows : Rows) (number : ℕ) (change : Row → Row) (calls : Call → Call) → ((row : Row) → (change row).call ≡ calls row.call)
     → (o : Option Row) → calls_in (with_row number change o rows) ≡ with_call number calls (option_map (λ row. row.call) o) (calls_in rows)
 calls_with rows number change calls alike None = refl
@@ -140,6 +146,7 @@ calls_in-changed rows number change calls alike =
     calls_with rows number change calls alike (map_of.get rows number)
     ∙ ap (λ o. with_call number calls o (calls_in rows)) (sym (get-calls_in rows number))
 
+-- a call that isn't changed stays
 stays : (rows : Rows) (number : ℕ) (o : Option Call) → map_of.get (calls_in rows) number ≡ o → with_call number (λ c. c) o (calls_in rows) ≡ calls_in rows
 stays rows number None is = refl
 stays rows number (Some call) is = map_of.same_map nat_cmp_total nat_cmp-IsAntisymmetric _ _ (λ q.

@@ -10,9 +10,11 @@ use Rattle.topology_phase.specs.Owners.{among}
 use Rattle.cluster_model.specs.Topologies.{all_noted}
 use Rattle.cluster_calls.proofs.RowTables.{tied}
 
+-- numbers are compared either way round
 flipped : (x y : ℕ) → (x == y) ≡ (y == x)
 flipped x y = grind (arith, nat_tests)
 
+-- either of three tests passes however they are grouped
 or_grouped : (a b c : Bool) → (a || (b || c)) ≡ ((a || b) || c)
 or_grouped true b c = refl
 or_grouped false b c = refl
@@ -25,6 +27,7 @@ contains-all_noted (t ∷ segments) set s =
     ∙ (λ i. (tied s t ∙ flipped s t) i || contains-all_noted segments set s i)
     ∙ or_grouped (t == s) (among s segments) (set_of.contains set s)
 
+-- a segment is among others where it ties with one
 any_tied : (s : ℕ) (segments : List ℕ) → list_any (eq_by_cmp nat_cmp s) segments ≡ among s segments
 any_tied s [] = refl
 any_tied s (t ∷ segments) = λ i. (tied s t ∙ flipped s t) i || any_tied s segments i
@@ -33,21 +36,26 @@ any_tied s (t ∷ segments) = λ i. (tied s t ∙ flipped s t) i || any_tied s s
 pub in_items : (set : set_of.FinSet nat_cmp) (s : ℕ) → set_of.contains set s ≡ among s (set_of.items set)
 in_items set s = set_of.contains-items set s ∙ any_tied s (set_of.items set)
 
+-- numbers that test as equal are equal
 equal : (x y : ℕ) → (x == y) ≡ true → x ≡ y
 equal x y h = grind (arith, nat_tests)
 
+-- a test and one that passes, together, are the test
 and_true : (b : Bool) → (b && true) ≡ b
 and_true true = refl
 and_true false = refl
 
+-- a test and one that fails, together, fail
 and_false : (b : Bool) → (b && false) ≡ false
 and_false true = refl
 and_false false = refl
 
+-- a test that fails, fails with another
 dropped : (b c : Bool) → (b && true) ≡ false → (b && c) ≡ false
 dropped true c h = absurd (cc)
 dropped false c h = refl
 
+-- the segment itself passes what it is asked
 passed_here : (p : ℕ → Bool) (s t : ℕ) (rest : Bool) (b : Bool) → p t ≡ b → (t == s) ≡ true → (p s && (true || rest)) ≡ b
 passed_here p s t rest b is e =
     and_true (p s) ∙ ap p (sym (equal t s e)) ∙ is
@@ -74,6 +82,7 @@ pub same_notes : (ms ns : List ℕ) (set : set_of.FinSet nat_cmp) → ((s : ℕ)
 same_notes ms ns set alike = set_of.same_set nat_cmp_total nat_cmp-IsAntisymmetric _ _ (λ s.
     contains-all_noted ms set s ∙ ap (λ b. b || set_of.contains set s) (alike s) ∙ sym (contains-all_noted ns set s))
 
+-- a test that implies another needn't ask for it
 within : (l a b : Bool) → (l ≡ false → a ≡ false) → (l && (a && b)) ≡ (b && a)
 within true true true h = refl
 within true true false h = refl
@@ -83,10 +92,12 @@ within false true b h = absurd (let e = h refl in cc)
 within false false true h = refl
 within false false false h = refl
 
+-- a segment more is noted, or none
 noted_by : (b : Bool) (set : set_of.FinSet nat_cmp) (n s : ℕ) → set_of.contains (cond b (set_of.insert set n) set) s ≡ ((b && (s == n)) || set_of.contains set s)
 noted_by true set n s = set_of.contains-insert nat_cmp_total set n s ∙ ap (λ e. e || set_of.contains set s) (tied s n)
 noted_by false set n s = refl
 
+-- what is noted up to a segment, with the next one
 step : (f : ℕ → Bool) (n s : ℕ) (o : Bool) → ((f n && (s == n)) || ((nat_lt s n && f s) || o)) ≡ ((nat_lt s (n + 1) && f s) || o)
 step f n s o =
     elim (s == n) as (λ e. (s == n) ≡ e → ((f n && e) || ((nat_lt s n && f s) || o)) ≡ ((nat_lt s (n + 1) && f s) || o)) [

@@ -24,6 +24,7 @@ pub record IsMade (x : Calling) (n : ℕ) : Type 0 where
   pub segments : x.segments ≡ 1
   pub left : is_one (λ (call : Call). nat_lt call.rounds (granted call)) (call_of x n) ≡ true
 
+-- the call of the test was made
 pub is_made : (x y : Calling) (n node : ℕ) (request : Request) → y ≡ no_calls 1 → x ≡ puts_call n (new_call node request) y
     → granted_rounds request.guarantee request.rounds ≡ 2 → IsMade x n
 is_made x y n node request first is two = record {
@@ -36,12 +37,15 @@ is_made x y n node request first is two = record {
       ∙ ap (nat_lt 0) two;
 }
 
+-- no unit of it is open before its round
 pub none_open : (x : Calling) (n : ℕ) → IsMade x n → any_open x.units n ≡ false
 none_open x n made = ap (λ (us : List Unit). any_open us n) made.units
 
+-- its unit is the first
 pub is_first : (x : Calling) (n u : ℕ) → IsMade x n → u ≡ 1 → ◌≡◌ {A = List ℕ} (u ∷ []) (range_with_len (length x.units + 1) 1)
 is_first x n u made one = ap (λ (k : ℕ). k ∷ []) one ∙ ap (λ (us : List Unit). range_with_len (length us + 1) 1) (sym made.units)
 
+-- its segment is incomplete
 pub is_incomplete : (x : Calling) (n s : ℕ) → IsMade x n → s ≡ 0 → ◌≡◌ {A = List ℕ} (s ∷ []) (incomplete x n)
 is_incomplete x n s made zero = ap (λ (k : ℕ). k ∷ []) zero ∙ sym (λ i. incomplete_from 0 (made.segments i) (made.units i) n)
 
@@ -50,6 +54,7 @@ pub record IsOnly (x : Calling) (u : ℕ) (unit : Unit) : Type 0 where
   pub units : x.units ≡ unit ∷ []
   pub id : unit.work.id ≡ u
 
+-- after the round there is that one unit
 pub is_asked : (x y : Calling) (n id : ℕ) (ask : Ask) → IsMade y n → x ≡ round_of n id (ask ∷ []) y → IsOnly x ask.unit (unit_made n id ask)
 is_asked x y n id ask made is = record {
   units = ap (λ (z : Calling). z.units) is ∙ ap (λ (us : List Unit). us ++ unit_made n id ask ∷ []) made.units;
@@ -74,5 +79,6 @@ only_changed x y u unit change only is same = record {
   id = same ∙ only.id;
 }
 
+-- a number is at most itself
 pub as_late : (n : ℕ) → nat_le n n ≡ true
 as_late n = grind (arith, nat_tests)

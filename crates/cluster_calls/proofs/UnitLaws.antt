@@ -33,18 +33,22 @@ pub record Alike (u v : Unit) : Type 0 where
 tag : Unit → ℕ × (ℕ × ℕ)
 tag u = (u.work.id, (u.work.call, u.work.segment))
 
+-- the number in front of a tag, or 0
 first_of : Option (ℕ × (ℕ × ℕ)) → ℕ
 first_of None = 0
 first_of (Some t) = t.0
 
+-- a tag is of this call and segment
 is_tagged : ℕ → ℕ → ℕ × (ℕ × ℕ) → Bool
 is_tagged call segment t = (t.1.0 == call) && (t.1.1 == segment)
 
+-- a unit's number is the one in front of its tag
 numbers : (o : Option Unit) → number_of o ≡ first_of (option_map tag o)
 unfolding first_of tag
 numbers None = refl
 numbers (Some u) = refl
 
+-- the newest unit of a call on a segment is the last one tagged so
 newest_tagged : (units : List Unit) (n s : ℕ) → number_of (newest_in units n s) ≡ first_of (find (is_tagged n s) (reverse (map tag units)))
 unfolding is_tagged tag
 newest_tagged units n s =
@@ -52,10 +56,12 @@ newest_tagged units n s =
     ∙ ap first_of (sym (find-map tag (is_tagged n s) (reverse units)))
     ∙ ap (λ ts. first_of (find (is_tagged n s) ts)) (map-reverse tag units)
 
+-- units that are alike have one tag
 tag_alike : (u v : Unit) → Alike u v → tag v ≡ tag u
 unfolding tag
 tag_alike u v a = λ i. (a.id i, (a.call i, a.segment i))
 
+-- a unit that is replaced by one alike leaves the tags
 tags_stay : (units : List Unit) (i : ℕ) (u v : Unit) → slice_get units i ≡ Some u → Alike u v → map tag (slice_set units i v) ≡ map tag units
 tags_stay units i u v h a =
     set-map tag units i v
@@ -129,5 +135,6 @@ tally_ended segments units i u v n t h a was gone undone done inside left kept =
     other : (s m : ℕ) (b : Bool) → s ≢ m → ((s == m) || b) ≡ b
     other s m b apart = let no_tie : (s == m) ≡ false = grind (arith, nat_tests) in ap (λ e. e || b) no_tie
 
+-- one where a test passes, else none
 pub one_more : Bool → ℕ
 one_more = one

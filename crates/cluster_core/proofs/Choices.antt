@@ -38,6 +38,7 @@ served st node a b c d installation landing copy unit = λ i. or_else (installat
 pub allowed_some : (st : State) (event : Event) → allowed st event ≡ true → Some event ≡ if_allowed st event
 allowed_some st event may = ap (λ t. if t then Some event else None) (sym may)
 
+-- an event that may not happen isn't chosen
 pub refused_none : (st : State) (event : Event) → allowed st event ≡ false → None ≡ if_allowed st event
 refused_none st event not_now = ap (λ t. if t then Some event else None) (sym not_now)
 

@@ -34,6 +34,7 @@ passing_one : (P : Unit → Type 0) (p : Unit → Bool) (x : Unit) (xs : List Un
 passing_one P p x xs true e h rest = All-cons (λ u. p u ≡ true → P u) x xs (λ t. All-head P x (filter p xs) h) (rest (All-tail P x (filter p xs) h))
 passing_one P p x xs false e h rest = All-cons (λ u. p u ≡ true → P u) x xs (λ t. absurd (cc)) (rest h)
 
+-- what holds of those that pass holds of each, where it passes
 all_passing : (P : Unit → Type 0) (p : Unit → Bool) (xs : List Unit) → All P (filter p xs) → All (λ u. p u ≡ true → P u) xs
 all_passing P p [] h = All-nil (λ u. p u ≡ true → P u)
 all_passing P p (x ∷ xs) h = passing_one P p x xs (p x) refl h (all_passing P p xs)

@@ -82,6 +82,7 @@ checked_run values st (event ∷ events) v is h =
     let parts = and_parts (allowed st event) (runs (changed st event) events) is in
     checked_run values (changed st event) events (ap (λ (c : Config). c.values) (others_stay.config st event) ∙ v) parts.1 (checked_on values st event v parts.0 h)
 
+-- at the start no call was made, so each one's pipeline was checked
 none_made : (values : ValueKind) (config : Config) → AllChecked values (start config)
 none_made values config number call e = absurd (not_there (sym (get-empty {X = Call} nat_cmp number) ∙ e))
   where

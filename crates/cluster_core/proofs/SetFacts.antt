@@ -22,6 +22,7 @@ some_count : (s : set_of.FinSet nat_cmp) (k n : ℕ) → set_of.contains s k ≡
 some_count s k zero member e = absurd (true≢false (sym member ∙ ap (λ t. set_of.contains t k) (empty_of_len s e) ∙ contains-empty nat_cmp k))
 some_count s k (suc n) member e = grind (arith, nat_tests)
 
+-- a set with a member isn't empty
 pub some_elements : (s : set_of.FinSet nat_cmp) (k : ℕ) → set_of.contains s k ≡ true → (set_of.len s == 0) ≡ false
 some_elements s k member = some_count s k (set_of.len s) member refl
 
@@ -42,10 +43,12 @@ first_pass p from (suc n) (suc d) within passes before =
     ∙ first_pass p (from + 1) n d (omega (arith, within)) (ap p (omega arith) ∙ passes) (λ k h. ap p (omega arith) ∙ before (suc k) (omega (arith, h)))
     ∙ ap (λ k. Some k) (omega arith)
 
+-- an empty set has no least member
 pub least_none : (s : set_of.FinSet nat_cmp) → ((k : ℕ) → set_of.contains s k ≡ false) → least_of s ≡ None
 unfolding least_of
 least_none s none = ap first_of (none_pass (set_of.contains s) 0 MOST_SEGMENTS none)
 
+-- a member is the least where no smaller one is there
 pub least_some : (s : set_of.FinSet nat_cmp) (x : ℕ) → x < MOST_SEGMENTS → set_of.contains s x ≡ true → ((k : ℕ) → k < x → set_of.contains s k ≡ false) → least_of s ≡ Some x
 unfolding least_of
 least_some s x within member before =

@@ -23,6 +23,7 @@ flying_there st t may =
     let facts = take_facts st t may in
     ap (is_one flies) facts.1.1.1.found ∙ ap is_some facts.1.1.1.flies
 
+-- what is there is what it is equal to
 same_some : {A : Type 0} (x y : A) → Some x ≡ Some y → x ≡ y
 same_some x y e = cc
 
@@ -56,6 +57,7 @@ take_next st t may now later alike entries given same many is =
     taken_row st t facts.0 facts.1.0 facts.1.1.1.found facts.1.1.1.there now later alike
     (is ∙ (λ i. calling.taking_of t.unit (same i) (many i) (unit_of st.calling t.unit) now))
 
+-- a take leaves the number of segments
 by_unit : (number : ℕ) (entries : List Entry) (given : ℕ) (unit : Option Unit) (now : Calling) → (calling.taking_of number entries given unit now).segments ≡ now.segments
 by_unit number entries given None now = refl
 by_unit number entries given (Some unit) now = refl
@@ -64,10 +66,12 @@ by_unit number entries given (Some unit) now = refl
 pub same_segments : (number : ℕ) (entries : List Entry) (given : ℕ) (unit : Option Unit) (now later : Calling) → later ≡ calling.taking_of number entries given unit now → later.segments ≡ now.segments
 same_segments number entries given unit now later is = ap (λ (x : Calling). x.segments) is ∙ by_unit number entries given unit now
 
+-- a test and one that passes, together, are the test
 and_true : (b : Bool) → (b && true) ≡ b
 and_true true = refl
 and_true false = refl
 
+-- without a taking there is no event
 none_either : (b : Bool) → option_map (λ (t : Taking). events.Take t) (if b then None else None) ≡ None
 none_either true = refl
 none_either false = refl

@@ -29,6 +29,7 @@ each_at P [] i x all at = not_some x at
 each_at P (y ∷ ys) zero x all at = subst P (same_some y x at) all.0
 each_at P (y ∷ ys) (suc i) x all at = each_at P ys i x all.1 at
 
+-- at each place stands the unit of that number
 number_at : (n : ℕ) (units : List Unit) (i : ℕ) (unit : Unit) → NumberedFrom n units → slice_get units i ≡ Some unit → unit.work.id ≡ n + i
 number_at n [] i unit all at = not_some unit at
 number_at n (u ∷ units) zero unit all at = let same = ap (λ (x : Unit). x.work.id) (same_some u unit at) in omega (arith, all.0, same)

@@ -41,6 +41,7 @@ read_parts true true false d e f g = refl
 read_parts true false c d e f g = refl
 read_parts false b c d e f g = refl
 
+-- a unit may read a batch where it may read, the batch is the next one, and there is room for it
 reads_parted : (st : State) (walk : Bool) (batch : Portion Entry) (unit : Unit) → can_read st walk batch (Some unit)
     ≡ (reads_on st walk unit && (same_batch batch (next_batch st unit) && nat_le (read_by st.calling.units + length batch.entries) MOST_READ))
 reads_parted st walk batch unit =
@@ -89,10 +90,12 @@ abbrev pub fetch_with : Unit → Option (Portion Entry) → Option Event
 fetch_with unit None = None
 fetch_with unit (Some batch) = Some (events.Fetch (record { unit = unit.work.id; batch = batch }))
 
+-- the event of a scan that is there under a test
 scan_where : (b : Bool) (unit : Unit) (batch : Portion Entry) → scan_with unit (if b then Some batch else None) ≡ (if b then Some (events.Scan (record { unit = unit.work.id; batch = batch })) else None)
 scan_where true unit batch = refl
 scan_where false unit batch = refl
 
+-- the event of a fetch that is there under a test
 fetch_where : (b : Bool) (unit : Unit) (batch : Portion Entry) → fetch_with unit (if b then Some batch else None) ≡ (if b then Some (events.Fetch (record { unit = unit.work.id; batch = batch })) else None)
 fetch_where true unit batch = refl
 fetch_where false unit batch = refl
@@ -118,9 +121,11 @@ pub record IsReady (st : State) (unit : Unit) : Type 0 where
   pub live : lives st.holding.coord unit.work.node ≡ true
   pub most : 1 ≤ batch_size (call_of st.calling unit.work.call)
 
+-- a batch has one entry at least
 at_least_one : (most n : ℕ) → is_up_to most n ≡ true → 1 ≤ n
 at_least_one most n h = leb-true 1 n (and_parts (nat_le 1 n) (nat_le n most) h).0
 
+-- the batches of a call that goes on have one entry at least
 sized : (st : State) (found : Option Call) → goes_on st.holding found ≡ true → ((call : Call) → found ≡ Some call → 1 ≤ call.request.batch) → 1 ≤ batch_size found
 sized st None h each = absurd (cc)
 sized st (Some call) h each = each call refl
@@ -155,6 +160,7 @@ pub begin_none : (st : State) (number : ℕ) (runs : Bool) → unit_of st.callin
 unfolding can_begin
 begin_none st number runs none may = absurd (false≢true (sym (ap (can_begin_unit st runs) none) ∙ may))
 
+-- a unit that can end is one that may
 ends_one : (st : State) (found : Option Unit) → can_end_unit st found ≡ true → is_one may_end found ≡ true
 ends_one st None h = absurd (cc)
 ends_one st (Some unit) h = (and_parts (goes_on st.holding (call_of st.calling unit.work.call)) _ h).1
@@ -169,6 +175,7 @@ pub record MayRead (st : State) (batch : Portion Entry) (found : Option Unit) : 
   pub may : is_one may_read found ≡ true
   pub few : read_by st.calling.units + length batch.entries ≤ MOST_READ
 
+-- where a batch may be read, all that reading asks for stands
 reads_one : (st : State) (walk : Bool) (batch : Portion Entry) (found : Option Unit) → can_read st walk batch found ≡ true → MayRead st batch found
 reads_one st walk batch None h = absurd (cc)
 reads_one st walk batch (Some unit) h =

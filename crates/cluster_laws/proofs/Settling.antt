@@ -73,6 +73,7 @@ aim_stays st (Answer a) = same st (changed st (Answer a)) (coord_stays st (Answe
 equal_within : (m n : ℕ) → m ≡ n → m ≤ n + 1
 equal_within m n e = omega arith
 
+-- a number that follows another is at most the one after it
 next_within : (m n : ℕ) → m ≡ n + 1 → m ≤ n + 1
 next_within m n e = omega arith
 
@@ -163,6 +164,7 @@ created_aim : (c : Coordination) → c.aim ≡ Create → aimed c ≡ created (l
 unfolding aimed
 created_aim c e = ap (λ (aim : Aim). by_aim aim (created (live_nodes c) (segment_count c) c.owners) (least (live_nodes c) c.owners c.newest.current)) e
 
+-- where the aim is least, the hash aimed at is the one that moves least
 least_aim : (c : Coordination) → c.aim ≡ Least → aimed c ≡ least (live_nodes c) c.owners c.newest.current
 unfolding aimed
 least_aim c e = ap (λ (aim : Aim). by_aim aim (created (live_nodes c) (segment_count c) c.owners) (least (live_nodes c) c.owners c.newest.current)) e

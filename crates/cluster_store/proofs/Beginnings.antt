@@ -23,6 +23,7 @@ use Rattle.cluster_store.proofs.Reached.{start_reached}
 abbrev pub first_stores : ℕ → Stores
 first_stores n = record { nodes = set_of.from_list (range_with_len 0 n); copying = nothing_held }
 
+-- the stores at the start are those of the first nodes
 first_there : (n k : ℕ) → set_of.contains (first_stores n).nodes k ≡ nat_lt k n
 first_there n k = set_of.contains-from_list_nat (range_with_len 0 n) k ∙ first_node n k
 

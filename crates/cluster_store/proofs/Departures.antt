@@ -33,6 +33,7 @@ use Rattle.cluster_store.proofs.Rows.{Becomes, becomes}
 
 -- ---- departures
 
+-- a departure that may happen is one that the coordinator takes
 pub depart_may : (fields : Inside) (st : Holding) (node : ℕ) → holding_of fields ≡ st → can_depart st node ≡ true → may_depart fields.coord node ≡ true
 unfolding can_depart
 depart_may fields st node view may = ap (λ (x : Holding). may_depart x.coord node) view ∙ may
@@ -83,14 +84,17 @@ module _ (before forgotten : Stores) (node : ℕ) (lost : ℕ → Bool) (is : fo
         | false ↦ λ _ e. absurd (cc)
       ] refl e
 
+-- after a departure no transfer to the node is left
 pub no_receiver_left : (before forgotten : Stores) (node : ℕ) (lost : ℕ → Bool) → forgotten ≡ record before { copying = forgets lost (restarts node (cancels node before.copying)) }
     → (s : ℕ) → transfer_to forgotten.copying.transfers node s ≡ None
 no_receiver_left = left_receiver
 
+-- and none from it that still goes on
 pub no_provider_left : (before forgotten : Stores) (node : ℕ) (lost : ℕ → Bool) → forgotten ≡ record before { copying = forgets lost (restarts node (cancels node before.copying)) }
     → (r s : ℕ) (v : Transfer) → transfer_to forgotten.copying.transfers r s ≡ Some v → has_ended v ≡ false → (v.provider == node) ≡ false
 no_provider_left = left_provider
 
+-- the departure of a node makes of the store what the cluster's step makes of what it holds
 pub depart_row : (fields : Inside) (st : Holding) (node : ℕ) (lost : ℕ → Bool) (coord : Coordination) (forgotten stores : Stores) (hints : Hints) → IsStore fields → holding_of fields ≡ st → can_depart st node ≡ true
     → ((s : ℕ) → lost s ≡ loses fields.coord node s) → coord ≡ departs fields.coord node
     → forgotten ≡ record fields.copies { copying = forgets lost (restarts node (cancels node fields.copies.copying)) }
@@ -116,10 +120,12 @@ depart_row fields st node lost coord forgotten stores hints h view may same is l
 
 -- ---- installations
 
+-- a node that may install lives
 pub install_may : (fields : Inside) (st : Holding) (node id : ℕ) → holding_of fields ≡ st → can_install st node id ≡ true → lives fields.coord node ≡ true
 unfolding can_install
 install_may fields st node id view may = ap (λ (x : Holding). lives x.coord node) view ∙ (and_parts (lives st.coord node) _ may).0
 
+-- an installation leaves the newest topology
 newest_stays : (c : Coordination) (node : ℕ) → (installs c node).newest ≡ c.newest
 unfolding installs
 newest_stays c node = refl
@@ -128,6 +134,7 @@ newest_stays c node = refl
 pub install_newest : (c coord : Coordination) (node : ℕ) → coord ≡ installs c node → coord.newest ≡ c.newest
 install_newest c coord node is = ap (λ (x : Coordination). x.newest) is ∙ newest_stays c node
 
+-- nothing is there where whatever is there is absurd
 none_by : (found : Option Transfer) → ((v : Transfer) → found ≡ Some v → ⊥) → found ≡ None
 none_by None never = refl
 none_by (Some v) never = absurd (never v refl)
@@ -149,17 +156,21 @@ module _ (fields : Inside) (h : IsStore fields) (node : ℕ) (t : Topology) (new
       ∙ ap (λ x. among node (write_owners x s)) (sym newest)
       ∙ none))
 
+-- no transfer goes to a node of a segment that it doesn't own by the newest topology
 pub install_receiver : (fields : Inside) (node : ℕ) (t : Topology) → IsStore fields → t ≡ fields.coord.newest → (s : ℕ) → among node (write_owners t s) ≡ false → transfer_to fields.copies.copying.transfers node s ≡ None
 install_receiver fields node t h newest = unwritten_receiver fields h node t newest
 
+-- nor does one come from it that still goes on
 pub install_provider : (fields : Inside) (node : ℕ) (t : Topology) → IsStore fields → t ≡ fields.coord.newest → lives fields.coord node ≡ true
     → (s : ℕ) → among node (write_owners t s) ≡ false → ProvidesNone fields.copies.copying.transfers node s
 install_provider fields node t h newest = unwritten_provider fields h node t newest
 
+-- there are no copies past the last segment
 no_copies_past : (fields : Inside) → IsStore fields → IsTopology fields.coord.newest → (node s : ℕ) (j : List ℕ) → length fields.coord.newest.current ≤ s → copy_at fields.copies.copying.cells node s j ≡ None
 no_copies_past fields h kept node s j past =
     ((store_parts fields h).1.empty s (ap (some_live fields.coord) (holders_past fields.coord.newest s kept past))).no_copy node j
 
+-- the installation of the newest topology makes of the store what the cluster's step makes of what it holds
 pub install_row : (fields : Inside) (st : Holding) (node id : ℕ) (t : Topology) (coord : Coordination) (stores : Stores) (hints : Hints) (ahead : Ahead) → IsStore fields → holding_of fields ≡ st → can_install st node id ≡ true
     → coord ≡ installs fields.coord node → t ≡ fields.coord.newest → IsTopology t
     → stores ≡ record fields.copies { copying = drops node (λ s. nat_lt s (length t.current) && not (among node (write_owners t s))) fields.copies.copying }

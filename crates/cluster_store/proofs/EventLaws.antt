@@ -12,6 +12,7 @@ use Rattle.cluster_model.specs.State.{Holding, segments_of}
 use Rattle.cluster_model.specs.Topologies.{can_announce, is_that, next_topology}
 use Rattle.cluster_store.proofs.Searches.{some_destination}
 
+-- the next topology may be announced
 next_may : (st : Holding) (t : Topology) → next_topology st ≡ Some t → can_announce st t ≡ true
 unfolding can_announce
 next_may st t is = ap (is_that t) is ∙ same_topology_itself t

@@ -66,6 +66,7 @@ emptied_none r s x y (Some v) h = elim ((x == r) && (y == s)) as (λ b. is_some 
   | false ↦ h
 ]
 
+-- a transfer that was emptied has nothing on its way
 emptied_there : (r s x y : ℕ) (found : Option Transfer) → ((x == r) && (y == s)) ≡ true → flies (option_map (emptied r s x y) found) ≡ false
 emptied_there r s x y None e = refl
 emptied_there r s x y (Some v) e = ap (λ b. is_some (cond b None v.flying)) e
@@ -95,6 +96,7 @@ kept_none : (b : Bool) (found : Option Transfer) → flies found ≡ false → f
 kept_none true found h = h
 kept_none false found h = refl
 
+-- a departure brings nothing on its way
 pub departs_none : (node : ℕ) (lost : ℕ → Bool) (p : Copying) (r s : ℕ) → flies (transfer_to p.transfers r s) ≡ false
     → flies (transfer_to (drops node (λ _. true) (forgets lost (restarts node (cancels node p)))).transfers r s) ≡ false
 departs_none node lost p r s none =
@@ -110,25 +112,31 @@ record IsAlike (found later : Option Transfer) : Type 0 where
   may : may_send later ≡ may_send found
   provider : (other : Option ℕ) → provider_of later other ≡ provider_of found other
 
+-- a transfer is like itself
 is_alike : (found later : Option Transfer) → later ≡ found → IsAlike found later
 is_alike found later e = record { flying = ap flies e; may = ap may_send e; provider = λ other. ap (λ o. provider_of o other) e }
 
+-- a note of a key that changed leaves what is on its way
 marked : (nodes : List ℕ) (s : ℕ) (key : List ℕ) (d : Destination) (found : Option Transfer) → IsAlike found (option_map (marks nodes s key d) found)
 marked nodes s key d None = record { flying = refl; may = refl; provider = λ _. refl }
 marked nodes s key d (Some v) = record { flying = refl; may = refl; provider = λ _. refl }
 
+-- what is on its way stays so when time passes, be it empty
 some_left : (clock : ℕ) (flown : Option (List StampedEntry)) → is_some (option_map (unexpired clock) flown) ≡ is_some flown
 some_left clock None = refl
 some_left clock (Some es) = refl
 
+-- and so does nothing
 none_of : (clock : ℕ) (flown : Option (List StampedEntry)) → is_none (option_map (unexpired clock) flown) ≡ is_none flown
 none_of clock None = refl
 none_of clock (Some es) = refl
 
+-- a tick leaves a transfer alike
 thin : (clock : ℕ) (found : Option Transfer) → IsAlike found (option_map (thinned clock) found)
 thin clock None = record { flying = refl; may = refl; provider = λ _. refl }
 thin clock (Some v) = record { flying = some_left clock v.flying; may = ap (λ b. not v.last && b) (none_of clock v.flying); provider = λ _. refl }
 
+-- what is like an equal one is like it
 then_alike : (found between later : Option Transfer) → later ≡ between → IsAlike found between → IsAlike found later
 then_alike found between later e h = record { flying = ap flies e ∙ h.flying; may = ap may_send e ∙ h.may; provider = λ other. ap (λ o. provider_of o other) e ∙ h.provider other }
 
@@ -144,6 +152,7 @@ unfolding sender
 sender_alike st c r s alike none =
     (λ i. if all_installed st.coord && (receives st.coord r s && alike.may i) then alike.provider (first_live st.coord (owners_at st.coord.newest.current s)) i else None) ∙ none
 
+-- a test and one that fails, together, fail
 and_none : (b : Bool) → (b && false) ≡ false
 and_none true = refl
 and_none false = refl
@@ -177,6 +186,7 @@ other_place : (x y r s : ℕ) → (x ≡ r → y ≡ s → ⊥) → ((x == r) &&
 other_place x y r s differ =
     false_from_ne_true ((x == r) && (y == s)) (λ e. let parts = and_parts (x == r) (y == s) e in differ (eqb-true x r parts.0) (eqb-true y s parts.1))
 
+-- another transfer isn't emptied
 emptied_other : (r s x y : ℕ) (found : Option Transfer) → ((x == r) && (y == s)) ≡ false → option_map (emptied r s x y) found ≡ found
 emptied_other r s x y None e = refl
 emptied_other r s x y (Some v) e = ap (λ b. Some (record v { flying = cond b None v.flying })) e
@@ -226,6 +236,7 @@ module _ (st : Holding) (r s : ℕ) where
 
 -- ---- hints at each event
 
+-- hints stay true where each transfer is like the one before
 hints_alike : (k : Hints) (st : Holding) (c : Copying) → ((r s : ℕ) → IsAlike (transfer_to st.copying.transfers r s) (transfer_to c.transfers r s)) → AreHints k st → AreHints k (record st { copying = c })
 hints_alike k st c alike h = record {
   ahead = h.ahead;

@@ -19,6 +19,7 @@ landing_none : (st : Holding) (r s : ℕ) → flies (transfer_of st r s) ≡ fal
 unfolding can_land
 landing_none st r s none = ap (λ b. if b then Some (events.Land r s) else None) none
 
+-- a test and one that fails, together, fail
 and_none : (a b : Bool) → b ≡ false → (a && b) ≡ false
 and_none true b e = e
 and_none false b e = refl

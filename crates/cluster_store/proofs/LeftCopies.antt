@@ -10,9 +10,11 @@ use Rattle.state_transfer.specs.Leaving.{drops, forgets}
 use Rattle.state_transfer.proofs.CellLaws.{cells_total, destinations_total, exact_cells, exact_destinations}
 use Rattle.state_transfer.proofs.LeavingLaws.{copy-drops, copy-forgets, transfer-drops, transfer-forgets}
 
+-- cells with the same copies are the same
 same_cells : (a b : Cells) → ((q t : ℕ) (j : List ℕ) → copy_at a q t j ≡ copy_at b q t j) → a ≡ b
 same_cells a b h = map_of.same_map cells_total exact_cells a b (λ cell. h cell.node cell.segment cell.key)
 
+-- so are transfers that are the same at each receiver and segment
 same_transfers : (a b : Transfers) → ((r s : ℕ) → transfer_to a r s ≡ transfer_to b r s) → a ≡ b
 same_transfers a b h = map_of.same_map destinations_total exact_destinations a b (λ d. h d.receiver d.segment)
 
@@ -23,18 +25,22 @@ same_copying a b clock cells transfers =
     let others = same_transfers a.transfers b.transfers transfers in
     λ i. record { clock = clock i; cells = same i; transfers = others i }
 
+-- forgetting leaves the clock
 clock_forgotten : (p : ℕ → Bool) (c : Copying) → (forgets p c).clock ≡ c.clock
 unfolding forgets
 clock_forgotten p c = refl
 
+-- and so does dropping
 clock_dropped : (node : ℕ) (p : ℕ → Bool) (c : Copying) → (drops node p c).clock ≡ c.clock
 unfolding drops
 clock_dropped node p c = refl
 
+-- what isn't to leave stays
 stays : {A : Type 0} (b : Bool) (o : Option A) → b ≡ false → cond (not b) o None ≡ o
 stays true o e = absurd (cc)
 stays false o e = refl
 
+-- what leaves for one of two reasons leaves for either
 twice : {A : Type 0} (a b : Bool) (o : Option A) → cond (not b) (cond (not a) o None) None ≡ cond (not (a || b)) o None
 twice true true o = refl
 twice true false o = refl
@@ -64,9 +70,11 @@ forgets_more p q r c both =
     ∙ ap (λ b. cond (not b) (transfer_to c.transfers n s) None) (both s)
     ∙ sym (transfer-forgets r c n s))
 
+-- the same is forgotten of the same segments
 pub forgets_alike : (p q : ℕ → Bool) (c : Copying) → ((s : ℕ) → p s ≡ q s) → forgets p c ≡ forgets q c
 forgets_alike p q c same = ap (λ f. forgets f c) (λ i s. same s i)
 
+-- nothing is dropped of no segment
 drops_none : (node : ℕ) (p : ℕ → Bool) (c : Copying) → ((s : ℕ) → p s ≡ false) → drops node p c ≡ c
 drops_none node p c none =
     same_copying (drops node p c) c (clock_dropped node p c)
@@ -77,10 +85,12 @@ drops_none node p c none =
     no_more true = refl
     no_more false = refl
 
+-- a test joined with either of two is joined with one of them
 either_of : (n a b : Bool) → ((n && a) || (n && b)) ≡ (n && (a || b))
 either_of true a b = refl
 either_of false a b = refl
 
+-- what is dropped of one set of segments, then of another, is dropped of both
 drops_more : (node : ℕ) (p q r : ℕ → Bool) (c : Copying) → ((s : ℕ) → (p s || q s) ≡ r s) → drops node q (drops node p c) ≡ drops node r c
 drops_more node p q r c both =
     same_copying (drops node q (drops node p c)) (drops node r c)
@@ -98,26 +108,32 @@ drops_more node p q r c both =
 abbrev pub below : ℕ → (ℕ → Bool) → ℕ → Bool
 below n p s = nat_lt s n && p s
 
+-- no segment is below 0
 none_below : (p : ℕ → Bool) (s : ℕ) → below 0 p s ≡ false
 none_below p s = ap (λ b. b && p s) (past s)
   where
     past : (s : ℕ) → nat_lt s 0 ≡ false
     past s = grind (arith, nat_tests)
 
+-- the next number is within the next bound
 within_next : (s n : ℕ) → s ≡ n → nat_lt s (n + 1) ≡ true
 within_next s n same = grind (arith, nat_tests)
 
+-- another number is within the next bound where it was within this one
 within_other : (s n : ℕ) → (s ≡ n → ⊥) → nat_lt s n ≡ nat_lt s (n + 1)
 within_other s n differ = grind (arith, nat_tests)
 
+-- one of two tests passes where the second does
 or_true : (b : Bool) → (b || true) ≡ true
 or_true true = refl
 or_true false = refl
 
+-- a test or one that fails is the test
 or_none : (b : Bool) → (b || false) ≡ b
 or_none true = refl
 or_none false = refl
 
+-- a test and one that fails, together, fail
 and_none : (b : Bool) → (b && false) ≡ false
 and_none true = refl
 and_none false = refl
@@ -150,26 +166,33 @@ all_below p n s none = elim (cases_lt s n) [
 
 -- ---- the segments of a set that are forgotten so far
 
+-- before the first segment nothing is forgotten
 pub forgets_first : (p : ℕ → Bool) (c : Copying) → c ≡ forgets (below 0 p) c
 forgets_first p c = sym (forgets_none (below 0 p) c (none_below p))
 
+-- a segment that is to be forgotten is the next one forgotten
 pub forgets_next : (p : ℕ → Bool) (n : ℕ) (c : Copying) → p n ≡ true → forgets (λ s. s == n) (forgets (below n p) c) ≡ forgets (below (n + 1) p) c
 forgets_next p n c passes = forgets_more (below n p) (λ s. s == n) (below (n + 1) p) c (λ s. below_one p n s passes)
 
+-- one that isn't is passed over
 pub forgets_skip : (p : ℕ → Bool) (n : ℕ) (c : Copying) → p n ≡ false → forgets (below n p) c ≡ forgets (below (n + 1) p) c
 forgets_skip p n c fails = forgets_alike (below n p) (below (n + 1) p) c (λ s. below_skip p n s fails)
 
+-- behind the last segment all is forgotten that is to be
 pub forgets_all : (p : ℕ → Bool) (n : ℕ) (c : Copying) → ((k : ℕ) → n ≤ k → p k ≡ false) → forgets (below n p) c ≡ forgets p c
 forgets_all p n c none = forgets_alike (below n p) p c (λ s. all_below p n s none)
 
 -- ---- the segments that a node drops so far
 
+-- before the first segment nothing is dropped
 pub drops_first : (node : ℕ) (p : ℕ → Bool) (c : Copying) → c ≡ drops node (below 0 p) c
 drops_first node p c = sym (drops_none node (below 0 p) c (none_below p))
 
+-- a segment that is to be dropped is the next one dropped
 pub drops_next : (node : ℕ) (p : ℕ → Bool) (n : ℕ) (c : Copying) → p n ≡ true → drops node (λ s. s == n) (drops node (below n p) c) ≡ drops node (below (n + 1) p) c
 drops_next node p n c passes = drops_more node (below n p) (λ s. s == n) (below (n + 1) p) c (λ s. below_one p n s passes)
 
+-- one that isn't is passed over
 pub drops_skip : (node : ℕ) (p : ℕ → Bool) (n : ℕ) (c : Copying) → p n ≡ false → drops node (below n p) c ≡ drops node (below (n + 1) p) c
 drops_skip node p n c fails = ap (λ f. drops node f c) (λ i s. below_skip p n s fails i)
 

@@ -21,6 +21,7 @@ pub runs-push : (st : State) (es : List Event) (e : Event) → runs st es ≡ tr
 runs-push st [] e r a = rw a refl
 runs-push st (first ∷ es) e r a = joined (allowed st first) (runs (changed st first) es) (runs (changed st first) (es ++ e ∷ [])) r (λ rest. runs-push (changed st first) es e rest a)
 
+-- the state after one event more is what that event makes of the state before
 pub state-push : (st : State) (es : List Event) (e : Event) → state st (es ++ e ∷ []) ≡ changed (state st es) e
 state-push st [] e = refl
 state-push st (first ∷ es) e = state-push (changed st first) es e

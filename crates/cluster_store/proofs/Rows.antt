@@ -81,9 +81,11 @@ copies_become fields stores copying hints st change event h view may makes are i
 pub live_there : (fields : Inside) → IsStore fields → (owners : List ℕ) → pruned (set_of.contains fields.copies.nodes) owners ≡ live_of fields.coord owners
 live_there fields h owners = ap (λ f. filter f owners) (λ i node. h.nodes node i)
 
+-- a key's change is that of its segment, where it has one
 changed_at : (st : Holding) (n s : ℕ) (k : List ℕ) (o : Option Stamped) (found : Option ℕ) → found ≡ Some s → record st { copying = changes (writers st n s) s k o st.copying } ≡ changed_key st n k o found
 changed_at st n s k o found is = ap (changed_key st n k o) (sym is)
 
+-- a write makes of the store what the cluster's step makes of what it holds
 pub write_row : (fields : Inside) (st : Holding) (w : WriteEvent) (s : ℕ) (stores : Stores) → IsStore fields → holding_of fields ≡ st → can_write st w ≡ true → segment_of st w.key ≡ Some s
     → stores ≡ record fields.copies { copying = changes (pruned (set_of.contains fields.copies.nodes) (write_owners (topology_of st.coord w.node) s)) s w.key (Some (record { value = w.value; until = w.until })) fields.copies.copying }
     → Becomes (record fields { copies = stores }) (written st w)
@@ -96,6 +98,7 @@ write_row fields st w s stores h view may segment are =
     ∙ changed_at (holding_of fields) w.node s w.key (Some (record { value = w.value; until = w.until })) (segment_of (holding_of fields) w.key) (ap (λ (x : Holding). segment_of x w.key) view ∙ segment))
     (hints_changes fields.hints (holding_of fields) (pruned (set_of.contains fields.copies.nodes) (write_owners (topology_of st.coord w.node) s)) s w.key (Some (record { value = w.value; until = w.until })) h.hints)
 
+-- so does an erasure
 pub erase_row : (fields : Inside) (st : Holding) (e : EraseEvent) (s : ℕ) (stores : Stores) → IsStore fields → holding_of fields ≡ st → can_erase st e ≡ true → segment_of st e.key ≡ Some s
     → stores ≡ record fields.copies { copying = changes (pruned (set_of.contains fields.copies.nodes) (write_owners (topology_of st.coord e.node) s)) s e.key None fields.copies.copying }
     → Becomes (record fields { copies = stores }) (erased st e)
@@ -113,6 +116,7 @@ pub written_nowhere : (st : Holding) (w : WriteEvent) → segment_of st w.key �
 unfolding written
 written_nowhere st w none = ap (changed_key st w.node w.key (Some (record { value = w.value; until = w.until }))) (sym none)
 
+-- an erasure of a key without a segment changes nothing
 pub erased_nowhere : (st : Holding) (e : EraseEvent) → segment_of st e.key ≡ None → st ≡ erased st e
 unfolding erased
 erased_nowhere st e none = ap (changed_key st e.node e.key None) (sym none)
@@ -130,12 +134,14 @@ write_lasts st w may =
 
 -- ---- ticks
 
+-- a tick that may happen keeps the clock in its limit
 pub tick_fits : (st : Holding) (number : ℕ) → can_tick st number ≡ true → st.copying.clock + number ≤ LAST_CLOCK
 unfolding can_tick
 tick_fits st number may =
     let parts = and_parts (nat_le 1 number) _ may in
     leb-true (st.copying.clock + number) LAST_CLOCK (and_parts (nat_le number LONGEST_LIFESPAN) (nat_le (st.copying.clock + number) LAST_CLOCK) parts.1).1
 
+-- a tick makes of the store what the cluster's step makes of what it holds
 pub tick_row : (fields : Inside) (st : Holding) (number clock : ℕ) (stores : Stores) → IsStore fields → holding_of fields ≡ st → can_tick st number ≡ true → clock ≡ fields.copies.copying.clock + number
     → stores ≡ record fields.copies { copying = ticks clock fields.copies.copying } → Becomes (record fields { copies = stores }) (ticked st number)
 unfolding ticked
@@ -145,6 +151,7 @@ tick_row fields st number clock stores h view may is are =
 
 -- ---- chunks
 
+-- so does a chunk that lands
 pub land_row : (fields : Inside) (st : Holding) (r s : ℕ) (stores : Stores) (hints : Hints) → IsStore fields → holding_of fields ≡ st → can_land st r s ≡ true
     → stores ≡ record fields.copies { copying = lands r s fields.copies.copying } → hints ≡ hints_landed r s fields.hints → Becomes (record fields { copies = stores; hints = hints }) (landed st r s)
 unfolding landed
@@ -152,6 +159,7 @@ land_row fields st r s stores hints h view may are so =
     copies_become fields stores (lands r s fields.copies.copying) hints st (λ (x : Holding). landed x r s) (events.Land r s) h view (λ _. may) (λ _. refl) are refl
     (subst (λ k. AreHints k (record (holding_of fields) { copying = lands r s fields.copies.copying })) (sym so) (hints_lands fields.hints (holding_of fields) r s h.hints))
 
+-- so does a chunk that is sent
 pub copy_row : (fields : Inside) (st : Holding) (e : CopyEvent) (stores : Stores) (hints : Hints) → IsStore fields → holding_of fields ≡ st → can_copy st e ≡ true
     → stores ≡ record fields.copies { copying = sends e.receiver e.segment e.provider e.batch fields.copies.copying } → hints ≡ hints_sent e.receiver e.segment fields.hints
     → Becomes (record fields { copies = stores; hints = hints }) (copied st e)
@@ -180,10 +188,12 @@ passed_row fields st place h view passed = record {
 
 -- ---- joins
 
+-- a node that may join is one that the coordinator takes
 pub join_may : (fields : Inside) (st : Holding) (node : ℕ) → holding_of fields ≡ st → can_join st node ≡ true → may_join fields.coord node ≡ true
 unfolding can_join
 join_may fields st node view may = ap (λ (x : Holding). may_join x.coord node) view ∙ may
 
+-- and it was never a member
 never_member : (c : Coordination) (node : ℕ) → may_join c node ≡ true → set_of.contains c.ever node ≡ false
 never_member c node may = turned (set_of.contains c.ever node) (and_parts (not (set_of.contains c.ever node)) _ may).0
 
@@ -199,6 +209,7 @@ join_provides fields node h may s r v there =
     let provided : IsProvided fields.coord v.provider s = store_providers fields h r s v there in
     false_from_ne_true (v.provider == node) (λ same. true≢false (sym provided.member ∙ ap (set_of.contains fields.coord.ever) (eqb-true v.provider node same) ∙ never_member fields.coord node may))
 
+-- a join makes of the store what the cluster's step makes of what it holds
 pub join_row : (fields : Inside) (st : Holding) (node : ℕ) (coord : Coordination) (stores : Stores) (hints : Hints) (ahead : Ahead) → IsStore fields → holding_of fields ≡ st → can_join st node ≡ true
     → coord ≡ joins fields.coord node → stores ≡ record fields.copies { nodes = set_of.insert fields.copies.nodes node }
     → hints ≡ hints_changed ahead fields.hints → IsAhead ahead coord → Becomes (record fields { coord = coord; copies = stores; hints = hints }) (joined st node)
@@ -217,6 +228,7 @@ join_row fields st node coord stores hints ahead h view may is are so follows =
 
 -- ---- announcements
 
+-- a topology that is that one is there
 is_that_one : (t : Topology) (found : Option Topology) → is_that t found ≡ true → found ≡ Some t
 is_that_one t None h = absurd (cc)
 is_that_one t (Some other) h = ap (λ x. Some x) (sym (same_topology_is t other h))
@@ -226,6 +238,7 @@ pub announce_next : (fields : Inside) (st : Holding) (t : Topology) → holding_
 unfolding can_announce
 announce_next fields st t view may = ap (λ (x : Holding). next_topology x) view ∙ is_that_one t (next_topology st) may
 
+-- an announcement makes of the store what the cluster's step makes of what it holds
 pub announce_row : (fields : Inside) (st : Holding) (t : Topology) (coord : Coordination) (stores : Stores) (hints : Hints) → IsStore fields → holding_of fields ≡ st → can_announce st t ≡ true
     → coord ≡ announces fields.coord t → stores ≡ record fields.copies { copying = cond (same_phase t.phase ReadOld) fields.copies.copying (closes fields.copies.copying) }
     → hints ≡ hints_announced (same_phase t.phase ReadOld) fields.hints → Becomes (record fields { coord = coord; copies = stores; hints = hints }) (announced st t)

@@ -19,6 +19,7 @@ found_here : (o rest : Option Event) → is_some o ≡ true → o ≡ or_else o 
 found_here None rest e = absurd (cc)
 found_here (Some event) rest e = refl
 
+-- where the first has no event, the rest decides
 passed_here : (o rest : Option Event) → is_some o ≡ false → or_else o rest ≡ rest
 passed_here None rest e = refl
 passed_here (Some event) rest e = absurd (cc)
@@ -65,9 +66,11 @@ module _ (p : ℕ → Bool) (xs : List ℕ) where
 
 -- ---- the numbers from 0 on
 
+-- at each place of a row stands its number
 row_at : (n i : ℕ) → i < n → get_or (range_with_len 0 n) i 0 ≡ i
 row_at n i within = let from_zero : 0 + i ≡ i = omega arith in get_or-range_with_len 0 n i 0 within ∙ from_zero
 
+-- and a smaller number is a place of it
 row_within : (n i : ℕ) → i < n → i < length (range_with_len 0 n)
 row_within n i within = omega (arith, length-range_with_len 0 n)
 
@@ -130,18 +133,22 @@ found_any p (x ∷ xs) = elim (p x) as (λ b. is_some (cond b (Some x) (find p x
   | false ↦ found_any p xs
 ]
 
+-- the first of three events doesn't depend on how they are grouped
 or_else-group : (a b c : Option Event) → or_else (or_else a b) c ≡ or_else a (or_else b c)
 or_else-group None b c = refl
 or_else-group (Some event) b c = refl
 
+-- the first event of two lists is that of the first, or else of the second
 some_append : {A : Type 0} (f : A → Option Event) (xs ys : List A) → first_some f (xs ++ ys) ≡ or_else (first_some f xs) (first_some f ys)
 some_append f [] ys = refl
 some_append f (x ∷ xs) ys = ap (or_else (f x)) (some_append f xs ys) ∙ sym (or_else-group (f x) (first_some f xs) (first_some f ys))
 
+-- the first event over a mapped list is the first of the list
 some_map : {A : Type 0} (f : A → Option Event) (g : ℕ → A) (xs : List ℕ) → first_some f (map g xs) ≡ first_some (λ x. f (g x)) xs
 some_map f g [] = refl
 some_map f g (x ∷ xs) = ap (or_else (f (g x))) (some_map f g xs)
 
+-- the first over pairs is the first over nodes, then over segments
 some_within : (f : ℕ → ℕ → Option Event) (segments nodes : List ℕ) →
     first_some (λ (d : ℕ × ℕ). f d.0 d.1) (flat_map (λ node. map (λ segment. (node, segment)) segments) nodes) ≡ first_some (λ node. first_some (f node) segments) nodes
 some_within f segments [] = refl

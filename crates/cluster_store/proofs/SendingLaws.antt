@@ -32,6 +32,7 @@ use Rattle.cluster_store.specs.Sending.{sender}
 use Rattle.cluster_store.specs.declared.store.Store.TheInside.{Inside}
 use Rattle.cluster_store.proofs.Reached.{store_parts, store_providers}
 
+-- what is there under a test is there, and the test passes
 if_some : (b : Bool) (o : Option ℕ) (x : ℕ) → (if b then o else None) ≡ Some x → (b ≡ true) × (o ≡ Some x)
 if_some true o x e = (refl, e)
 if_some false o x e = absurd (cc)
@@ -43,6 +44,7 @@ pub record IsSender (st : Holding) (r s q : ℕ) : Type 0 where
   pub may : may_send (transfer_of st r s) ≡ true
   pub gives : provider st r s ≡ Some q
 
+-- where a node sends, all that sending asks for stands
 pub is_sender : (st : Holding) (r s q : ℕ) → sender st r s ≡ Some q → IsSender st r s q
 unfolding sender
 is_sender st r s q e =
@@ -53,6 +55,7 @@ is_sender st r s q e =
 
 -- ---- tests of a copy
 
+-- tests before an option may be asked apart from it
 apart_tests : (a b c : Bool) (p : ℕ) (o : Option ℕ) (s : Bool) → (a && (b && (c && (is_provided p o && s)))) ≡ (is_provided p (if a && (b && c) then o else None) && s)
 apart_tests true true true p o s = refl
 apart_tests true true false p o s = refl
@@ -66,6 +69,7 @@ can_copy-sender st e =
     apart_tests (all_installed st.coord) (receives st.coord e.receiver e.segment) (may_send (transfer_of st e.receiver e.segment)) e.provider (provider st e.receiver e.segment)
     (same_chunk e.batch (next_chunk_of st e.receiver e.segment e.provider))
 
+-- who is the provider is there
 is_provider : (q : ℕ) (found : Option ℕ) → is_provided q found ≡ true → found ≡ Some q
 is_provider q None h = absurd (cc)
 is_provider q (Some other) h = ap (λ n. Some n) (sym (eqb-true q other h))
@@ -76,6 +80,7 @@ copy_parts st e can =
     let parts = and_parts (is_provided e.provider (sender st e.receiver e.segment)) (same_chunk e.batch (next_chunk_of st e.receiver e.segment e.provider)) (sym (can_copy-sender st e) ∙ can) in
     (is_provider e.provider (sender st e.receiver e.segment) parts.0, same_chunk_is e.batch (next_chunk_of st e.receiver e.segment e.provider) parts.1)
 
+-- the store's own chunk may be sent exactly where the provider is the sender
 own_chunk : (st : Holding) (r s q : ℕ) → can_copy st (copy_of st r s q) ≡ is_provided q (sender st r s)
 own_chunk st r s q =
     can_copy-sender st (copy_of st r s q)
@@ -111,6 +116,7 @@ and_false : (b : Bool) → (b && false) ≡ false
 and_false true = refl
 and_false false = refl
 
+-- outside the first phase of a rebalance nobody sends
 pub unphased_sends : (st : Holding) → same_phase st.coord.newest.phase ReadOld ≡ false → (r s : ℕ) → sender st r s ≡ None
 unfolding sender
 unphased_sends st off r s =
@@ -122,6 +128,7 @@ unphased_sends st off r s =
     else None) off
     ∙ ap (λ b. if b then provider st r s else None) (and_false (all_installed st.coord))
 
+-- nor before all live nodes have installed the newest topology
 pub uninstalled_sends : (st : Holding) → all_installed st.coord ≡ false → (r s : ℕ) → sender st r s ≡ None
 unfolding sender
 uninstalled_sends st off r s = ap (λ b. if b && (receives st.coord r s && may_send (transfer_of st r s)) then provider st r s else None) off
@@ -139,6 +146,7 @@ pub record IsReady (fields : Inside) (r s q : ℕ) : Type 0 where
   pub no_receiver : transfer_to fields.copies.copying.transfers q s ≡ None
   pub may : may_send (transfer_to fields.copies.copying.transfers r s) ≡ true
 
+-- a chunk has one entry at least
 some_chunk : (config : Config) → is_config config ≡ true → 1 ≤ config.chunk
 some_chunk config h =
     let nodes = and_parts (is_up_to MOST_NODES config.nodes) _ h in
@@ -146,14 +154,17 @@ some_chunk config h =
     let owners = and_parts (is_up_to MOST_OWNERS config.owners) _ segments.1 in
     leb-true 1 config.chunk (and_parts (nat_le 1 config.chunk) _ owners.1).0
 
+-- a transfer goes on with a provider where whatever is there has it
 goes_by : (found : Option Transfer) (q : ℕ) → ((v : Transfer) → found ≡ Some v → v.provider ≡ q) → goes_on found q ≡ true
 goes_by None q same = refl
 goes_by (Some v) q same = or_right (has_ended v) (v.provider == q) (eq-eqb v.provider q (same v refl))
 
+-- nothing is there where whatever is there is absurd
 none_by : (found : Option Transfer) → ((v : Transfer) → found ≡ Some v → ⊥) → found ≡ None
 none_by None never = refl
 none_by (Some v) never = absurd (never v refl)
 
+-- where a node sends, the store is ready to make its chunk
 pub ready : (fields : Inside) → IsStore fields → (r s q : ℕ) → sender (holding_of fields) r s ≡ Some q → IsReady fields r s q
 ready fields h r s q e =
     let st : Holding = holding_of fields in
@@ -181,6 +192,7 @@ ready fields h r s q e =
 pub sender_ready : (fields : Inside) (st : Holding) → IsStore fields → holding_of fields ≡ st → (r s q : ℕ) → sender st r s ≡ Some q → IsReady fields r s q
 sender_ready fields st h view r s q e = ready fields h r s q (ap (λ (x : Holding). sender x r s) view ∙ e)
 
+-- and so it is where the event of a copy may happen
 pub copy_ready : (fields : Inside) (st : Holding) (e : CopyEvent) → IsStore fields → holding_of fields ≡ st → can_copy st e ≡ true → IsReady fields e.receiver e.segment e.provider
 copy_ready fields st e h view may = sender_ready fields st h view e.receiver e.segment e.provider (copy_parts st e may).0
 
@@ -206,6 +218,7 @@ copy_sends fields st e stores sent h view may there is are =
     (λ (chunk : Portion StampedEntry). record fields.copies { copying = sends e.receiver e.segment e.provider chunk fields.copies.copying })
     (there ∙ (copy_ready fields st e h view may).may) is are (next_is fields st e view may)
 
+-- a mapped option is there exactly where the option is
 pub some_mapped : {A B : Type 0} (f : A → B) (o : Option A) → is_some (option_map f o) ≡ is_some o
 some_mapped f None = refl
 some_mapped f (Some x) = refl

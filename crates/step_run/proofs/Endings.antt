@@ -22,12 +22,14 @@ record IsLonger (run next : Progress) : Type 0 where
   pub longer : length next.history.events ≡ length run.history.events + 1
   pub room : length run.history.events < MOST_EVENTS
 
+-- a run that isn't stopped by an event is longer by it
 longer_by : (line : ℕ) (event : Event) (run : Progress) (full : Bool) → passes_limit run.history event ≡ full →
     is_some (if full then record run { stopped = Some line } else record run { state = changed run.state event; history = with_event run.history event }).stopped ≡ false →
     IsLonger run (if full then record run { stopped = Some line } else record run { state = changed run.state event; history = with_event run.history event })
 longer_by line event run true full goes = absurd (cc)
 longer_by line event run false full goes = record { longer = length-append run.history.events (event ∷ []); room = one_more run.history event full }
 
+-- so it is where the event is the one of a line
 with_event_at-longer : (line : ℕ) (event : Event) (run : Progress) → is_some (with_event_at line event run).stopped ≡ false → IsLonger run (with_event_at line event run)
 unfolding with_event_at
 with_event_at-longer line event run goes = longer_by line event run (passes_limit run.history event) refl goes
@@ -37,6 +39,7 @@ abbrev EndsIn : ℕ → ℕ → Command → Type 0
 EndsIn times line command =
     (run : Progress) → length run.history.events ≤ MOST_EVENTS → MOST_EVENTS < length run.history.events + times → HasEnded command (repeated times line command run)
 
+-- what is repeated behind an event ends, where it ends from there
 behind : (times line : ℕ) (command : Command) → EndsIn times line command → (run next : Progress) (stopped : Bool) → is_some next.stopped ≡ stopped →
     (is_some next.stopped ≡ false → IsLonger run next) → MOST_EVENTS < length run.history.events + suc times →
     HasEnded command (if stopped then next else repeated times line command next)
@@ -47,12 +50,14 @@ behind times line command rest run next false e longer enough =
     let long = more.longer in
     rest next (omega arith) (omega arith)
 
+-- and so does what is repeated by choice
 by_choice : (times line : ℕ) (command : Command) → EndsIn times line command → (run : Progress) (found : Option Event) → chosen run.state command ≡ found →
     MOST_EVENTS < length run.history.events + suc times → HasEnded command (by_event line (repeated times line command) (λ same. same) found run)
 by_choice times line command rest run None e enough = inr e
 by_choice times line command rest run (Some event) e enough =
     behind times line command rest run (with_event_at line event run) (is_some (with_event_at line event run).stopped) refl (with_event_at-longer line event run) enough
 
+-- what is repeated more often than a journal has room ends
 pub ends : (times line : ℕ) (command : Command) → EndsIn times line command
 unfolding repeated
 ends zero line command run few enough = absurd (omega arith)

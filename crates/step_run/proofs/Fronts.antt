@@ -34,9 +34,11 @@ longer_front {g} a b = record {
 abbrev pub Grows : (Progress → Progress) → Type 0
 Grows next = (run : Progress) → IsFront run.history (next run).history
 
+-- what is done leaves a run that has stopped as it is
 abbrev pub Stays : (Progress → Progress) → Type 0
 Stays next = (run : Progress) → is_some run.stopped ≡ true → next run ≡ run
 
+-- an event at a line makes a run no shorter
 pub with_event_at-grows : (line : ℕ) (event : Event) → Grows (with_event_at line event)
 unfolding with_event_at
 with_event_at-grows line event run =
@@ -46,10 +48,12 @@ with_event_at-grows line event run =
       | false ↦ record { config = refl; more = event ∷ []; events = refl }
     ]
 
+-- nor does an idle note
 pub noted-grows : (line : ℕ) → Grows (noted line)
 unfolding noted
 noted-grows line run = record { config = refl; more = []; events = sym (append-nil run.history.events) }
 
+-- nor does what is done only where the run goes on
 pub going-grows : (next : Progress → Progress) → Grows next → Grows (going next)
 going-grows next grows run =
     elim (is_some run.stopped) as (λ (stopped : Bool). IsFront run.history (if stopped then run else next run).history) [
@@ -57,63 +61,78 @@ going-grows next grows run =
       | false ↦ grows run
     ]
 
+-- and that leaves a stopped run
 pub going-stays : (next : Progress → Progress) → Stays (going next)
 going-stays next run stopped = rw stopped refl
 
+-- nor does what is done by an event that there may be
 pub by_event-grows : (line : ℕ) (rest none : Progress → Progress) → Grows rest → Grows none → (event : Option Event) → Grows (by_event line rest none event)
 by_event-grows line rest none r n None run = n run
 by_event-grows line rest none r n (Some event) run = longer_front (with_event_at-grows line event run) (going-grows rest r (with_event_at line event run))
 
+-- nor does one step
 pub step-grows : (line : ℕ) (event : Option Event) → Grows (by_event line (λ same. same) (λ same. same) event)
 step-grows line event run = by_event-grows line (λ same. same) (λ same. same) (λ same. same_front same.history) (λ same. same_front same.history) event run
 
+-- nor do repeated ones
 pub repeated-grows : (times line : ℕ) (command : Command) → Grows (repeated times line command)
 unfolding repeated
 repeated-grows zero line command run = same_front run.history
 repeated-grows (suc times) line command run =
     by_event-grows line (repeated times line command) (λ same. same) (repeated-grows times line command) (λ same. same_front same.history) (chosen run.state command) run
 
+-- nor does a command done until it has no event
 all_done-grows : (line : ℕ) (command : Command) → Grows (all_done line command)
 all_done-grows line command run =
     by_event-grows line (repeated ENOUGH line command) (noted line) (repeated-grows ENOUGH line command) (noted-grows line) (chosen run.state command) run
 
+-- nor does an order
 pub order_done-grows : (line : ℕ) (order : Order) → Grows (order_done line order)
 order_done-grows line (One command) run = by_event-grows line (λ same. same) (noted line) (λ same. same_front same.history) (noted-grows line) (chosen run.state command) run
 order_done-grows line Settle run = all_done-grows line Advance run
 order_done-grows line (Finish call) run = all_done-grows line (Drive call) run
 
+-- nor does a line
 pub done-grows : (line : StepLine) → Grows (done line)
 done-grows line run = order_done-grows line.line line.order run
 
+-- nor do lines
 pub after_lines-grows : (lines : List StepLine) → Grows (after_lines lines)
 after_lines-grows [] run = same_front run.history
 after_lines-grows (line ∷ lines) run = longer_front (going-grows (done line) (done-grows line) run) (after_lines-grows lines (going (done line) run))
 
+-- and they leave a stopped run
 pub after_lines-stays : (lines : List StepLine) → Stays (after_lines lines)
 after_lines-stays [] run stopped = refl
 after_lines-stays (line ∷ lines) run stopped = ap (after_lines lines) (going-stays (done line) run stopped) ∙ after_lines-stays lines run stopped
 
+-- nor does finishing the calls
 pub all_finished-grows : (calls call : ℕ) → Grows (all_finished calls call)
 unfolding all_finished
 all_finished-grows zero call run = same_front run.history
 all_finished-grows (suc calls) call run =
     longer_front (going-grows (repeated ENOUGH 0 (Drive call)) (repeated-grows ENOUGH 0 (Drive call)) run) (all_finished-grows calls (call + 1) (going (repeated ENOUGH 0 (Drive call)) run))
 
+-- which leaves a stopped run
 pub all_finished-stays : (calls call : ℕ) → Stays (all_finished calls call)
 unfolding all_finished
 all_finished-stays zero call run stopped = refl
 all_finished-stays (suc calls) call run stopped =
     ap (all_finished calls (call + 1)) (going-stays (repeated ENOUGH 0 (Drive call)) run stopped) ∙ all_finished-stays calls (call + 1) run stopped
 
+-- nor does settling the topology
 pub settled-grows : Grows settled
 settled-grows = going-grows (repeated ENOUGH 0 Advance) (repeated-grows ENOUGH 0 Advance)
 
+-- which leaves a stopped run
 pub settled-stays : Stays settled
 settled-stays = going-stays (repeated ENOUGH 0 Advance)
 
+-- nor does the end of a script
 pub ended-grows : Grows ended
 ended-grows run = longer_front (all_finished-grows LAST_CALL 1 run) (settled-grows (all_finished LAST_CALL 1 run))
 
+-- which leaves a stopped run
 pub ended-stays : Stays ended
 ended-stays run stopped = ap settled (all_finished-stays LAST_CALL 1 run stopped) ∙ settled-stays run stopped
 
@@ -149,6 +168,7 @@ pub on_err : {A E : Type 0} {P : Type 0} (r : Result A E) → true ≡ is_err r 
 on_err (Ok value) h p = absurd (cc)
 on_err (Err fault) h p = p
 
+-- what holds on success holds where there is no fault
 pub on_ok : {A E : Type 0} {P : Type 0} (r : Result A E) → false ≡ is_err r → OnOk r P → P
 on_ok (Ok value) h p = p
 on_ok (Err fault) h p = absurd (cc)

@@ -35,6 +35,7 @@ runs-push : (st : State) (es : List Event) (e : Event) → runs st es ≡ true �
 runs-push st [] e r a = rw a refl
 runs-push st (first ∷ es) e r a = joined (allowed st first) (runs (changed st first) es) (runs (changed st first) (es ++ e ∷ [])) r (λ rest. runs-push (changed st first) es e rest a)
 
+-- the state after one event more is what that event makes of the state before
 state-push : (st : State) (es : List Event) (e : Event) → state st (es ++ e ∷ []) ≡ changed (state st es) e
 state-push st [] e = refl
 state-push st (first ∷ es) e = state-push (changed st first) es e
@@ -62,9 +63,11 @@ fits_more h event e =
     and_from (nat_le (length (h.events ++ event ∷ [])) MOST_EVENTS) (nat_le (total_weight (h.events ++ event ∷ [])) MOST_WEIGHT)
     (le-leb (length (h.events ++ event ∷ [])) MOST_EVENTS shorter) (le-leb (total_weight (h.events ++ event ∷ [])) MOST_WEIGHT lighter)
 
+-- what is done keeps a run a run of these settings
 abbrev Keeps : Config → (Progress → Progress) → Type 0
 Keeps config next = (run : Progress) → IsKept config run → IsKept config (next run)
 
+-- an event that may happen keeps it so
 pub with_event_at-keeps : (config : Config) (line : ℕ) (event : Event) (run : Progress) → allowed run.state event ≡ true → IsKept config run → IsKept config (with_event_at line event run)
 unfolding with_event_at
 with_event_at-keeps config line event run may kept = by_room (passes_limit run.history event) refl
@@ -80,20 +83,24 @@ with_event_at-keeps config line event run may kept = by_room (passes_limit run.h
       fits = fits_more run.history event e;
     }
 
+-- so does an idle note
 noted-keeps : (config : Config) (line : ℕ) → Keeps config (noted line)
 unfolding noted
 noted-keeps config line run kept = record { settings = kept.settings; steps = kept.steps; cluster = kept.cluster; fits = kept.fits }
 
+-- so does what is done only where the run goes on
 going-keeps : (config : Config) (next : Progress → Progress) → Keeps config next → Keeps config (going next)
 going-keeps config next keeps run kept =
     elim (is_some run.stopped) as (λ (stopped : Bool). IsKept config (if stopped then run else next run)) [ true ↦ kept | false ↦ keeps run kept ]
 
+-- so does what is done by an event that may happen
 by_event-keeps : (config : Config) (line : ℕ) (rest none : Progress → Progress) → Keeps config rest → Keeps config none → (event : Option Event) (run : Progress) →
     MayHappen run.state event → IsKept config run → IsKept config (by_event line rest none event run)
 by_event-keeps config line rest none r n None run may kept = n run kept
 by_event-keeps config line rest none r n (Some event) run may kept =
     going-keeps config rest r (with_event_at line event run) (with_event_at-keeps config line event run (may event refl) kept)
 
+-- so does nothing
 same-keeps : (config : Config) → Keeps config (λ same. same)
 same-keeps config run kept = kept
 
@@ -115,26 +122,31 @@ repeated_by P line command each (suc times) run h = by_choice (chosen run.state 
           | false ↦ rest next there
         ]
 
+-- so do repeated steps
 repeated-keeps : (config : Config) (times line : ℕ) (command : Command) → Keeps config (repeated times line command)
 repeated-keeps config times line command run kept =
     repeated_by (IsKept config) line command (λ run event e kept. with_event_at-keeps config line event run (chosen_may run.state command event e) kept) times run kept
 
+-- so does a command done until it has no event
 all_done-keeps : (config : Config) (line : ℕ) (command : Command) → Keeps config (all_done line command)
 all_done-keeps config line command run kept =
     by_event-keeps config line (repeated ENOUGH line command) (noted line) (repeated-keeps config ENOUGH line command) (noted-keeps config line)
     (chosen run.state command) run (chosen_may run.state command) kept
 
+-- so does an order
 order_done-keeps : (config : Config) (line : ℕ) (order : Order) → Keeps config (order_done line order)
 order_done-keeps config line (One command) run kept =
     by_event-keeps config line (λ same. same) (noted line) (same-keeps config) (noted-keeps config line) (chosen run.state command) run (chosen_may run.state command) kept
 order_done-keeps config line Settle run kept = all_done-keeps config line Advance run kept
 order_done-keeps config line (Finish call) run kept = all_done-keeps config line (Drive call) run kept
 
+-- so do lines
 pub after_lines-keeps : (config : Config) (lines : List StepLine) → Keeps config (after_lines lines)
 after_lines-keeps config [] run kept = kept
 after_lines-keeps config (line ∷ lines) run kept =
     after_lines-keeps config lines (going (done line) run) (going-keeps config (done line) (order_done-keeps config line.line line.order) run kept)
 
+-- so does finishing the calls
 all_finished-keeps : (config : Config) (calls call : ℕ) → Keeps config (all_finished calls call)
 unfolding all_finished
 all_finished-keeps config zero call run kept = kept
@@ -142,6 +154,7 @@ all_finished-keeps config (suc calls) call run kept =
     all_finished-keeps config calls (call + 1) (going (repeated ENOUGH 0 (Drive call)) run)
     (going-keeps config (repeated ENOUGH 0 (Drive call)) (repeated-keeps config ENOUGH 0 (Drive call)) run kept)
 
+-- so does the end of a script
 ended-keeps : (config : Config) → Keeps config ended
 ended-keeps config run kept =
     going-keeps config (repeated ENOUGH 0 Advance) (repeated-keeps config ENOUGH 0 Advance) (all_finished LAST_CALL 1 run)
@@ -151,6 +164,7 @@ ended-keeps config run kept =
 pub begin_kept : (config : Config) → IsKept config (begin config)
 begin_kept config = record { settings = refl; steps = refl; cluster = refl; fits = refl }
 
+-- the run of a script is a run of its settings
 pub run_of-kept : (script : Steps) → IsKept script.config (run_of script)
 unfolding run_of
 run_of-kept script =
@@ -188,6 +202,7 @@ left_is_run (Err NoMemory) h script (inr front) = front_is_run h (run_of script)
 pub run_of-settings : (script : Steps) → (run_of script).history.config ≡ Some script.config
 run_of-settings script = (run_of-kept script).settings
 
+-- what is left of a script's run has its settings
 pub settings_left : {A : Type 0} (result : Result A RunFault) (h : History) (script : Steps) → LeavesRun result h (run_of script) →
     OnOk result (h.config ≡ Some script.config)
 settings_left (Ok value) h script left = ap (λ (history : History). history.config) left.1 ∙ run_of-settings script

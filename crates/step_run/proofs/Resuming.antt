@@ -22,9 +22,11 @@ after_step rest (Some event) run = going rest run
 abbrev pub one_step : ℕ → Option Event → Progress → Progress
 one_step line event run = by_event line (λ same. same) (λ same. same) event run
 
+-- nothing done leaves a run
 going-same : (run : Progress) → going (λ same. same) run ≡ run
 going-same run = elim (is_some run.stopped) as (λ (stopped : Bool). (if stopped then run else run) ≡ run) [ true ↦ refl | false ↦ refl ]
 
+-- what is done by an event is one step, and then the rest
 pub by_event-step : (line : ℕ) (rest : Progress → Progress) (event : Option Event) (run : Progress) →
     by_event line rest (λ same. same) event run ≡ after_step rest event (one_step line event run)
 by_event-step line rest None run = refl
@@ -36,27 +38,33 @@ pub by_event-or : (line : ℕ) (rest none : Progress → Progress) (event : Opti
 by_event-or line rest none None run h = absurd (cc)
 by_event-or line rest none (Some event) run h = ap (going rest) (sym (going-same (with_event_at line event run)))
 
+-- without an event it is what is done for none
 pub by_event-none : (line : ℕ) (rest none : Progress → Progress) (event : Option Event) (run : Progress) → false ≡ is_some event →
     by_event line rest none event run ≡ none run
 by_event-none line rest none None run h = refl
 by_event-none line rest none (Some event) run h = absurd (cc)
 
+-- without an event a step changes nothing
 pub one_step-none : (line : ℕ) (event : Option Event) (run : Progress) → false ≡ is_some event → one_step line event run ≡ run
 one_step-none line None run h = refl
 one_step-none line (Some event) run h = absurd (cc)
 
+-- what is done after a step leaves a stopped run
 pub after_step-stays : (rest : Progress → Progress) (event : Option Event) → Stays (after_step rest event)
 after_step-stays rest None run stopped = refl
 after_step-stays rest (Some event) run stopped = going-stays rest run stopped
 
+-- and makes it no shorter
 pub after_step-grows : (rest : Progress → Progress) → Grows rest → (event : Option Event) → Grows (after_step rest event)
 after_step-grows rest grows None run = same_front run.history
 after_step-grows rest grows (Some event) run = going-grows rest grows run
 
+-- without an event nothing is done after the step
 pub after_step-none : (rest : Progress → Progress) (event : Option Event) (run : Progress) → false ≡ is_some event → after_step rest event run ≡ run
 after_step-none rest None run h = refl
 after_step-none rest (Some event) run h = absurd (cc)
 
+-- with one the rest is done
 pub after_step-some : (rest : Progress → Progress) (event : Option Event) (st : State) (h : History) → true ≡ is_some event →
     after_step rest event (running st h) ≡ rest (running st h)
 after_step-some rest None st h e = absurd (cc)
@@ -72,6 +80,7 @@ repeated-next (suc times) line command run h =
     by_event-step line (repeated times line command) (chosen run.state command) run
     ∙ ap (λ n. after_step (repeated n line command) (chosen run.state command) (one_step line (chosen run.state command) run)) e
 
+-- repeated no more, nothing is done
 pub repeated-end : (line : ℕ) (command : Command) (run : Progress) → repeated 0 line command run ≡ run
 unfolding repeated
 repeated-end line command run = refl
@@ -134,6 +143,7 @@ all_finished-next (suc calls) call st h more =
     let e : calls ≡ suc calls - 1 = omega arith in
     ap (λ n. all_finished n (call + 1) (repeated ENOUGH 0 (Drive call) (running st h))) e
 
+-- no call more to finish, nothing is done
 pub all_finished-end : (call : ℕ) (run : Progress) → all_finished 0 call run ≡ run
 unfolding all_finished
 all_finished-end call run = refl
