@@ -1,6 +1,7 @@
 //! Reads a pipeline from each line of standard input, and prints how many operations it has and
-//! how long its text is, or where the line stops being a pipeline's text. The measure of reading
-//! and printing runs it.
+//! whether it is written as it was read, or where the line stops being a pipeline's text. Its stored
+//! run has texts of each form, long and deep ones, and each front of one. The measure of reading and
+//! printing runs it.
 #![tactic(auto)]
 
 use anyhow::Result;
@@ -27,8 +28,12 @@ fn tell(alloc: Global, line: &str) -> Result<String> {
     match parse_pipeline(alloc, text) {
         Ok(pipeline) => {
             let count = pipeline.ops.len();
-            let length = print_pipeline(alloc, &pipeline)?.len();
-            Ok(format!(in alloc; "{count} operations in {length} bytes")?)
+            let written = print_pipeline(alloc, &pipeline)?;
+            Ok(if written.as_slice() == text {
+                format!(in alloc; "{count} operations, written as it was read")?
+            } else {
+                format!(in alloc; "{count} operations, written otherwise")?
+            })
         }
         Err(ParseFault::Syntax { at }) => Ok(format!(in alloc; "no pipeline behind {at} bytes")?),
         Err(ParseFault::NoMemory) => Err(ParseFault::NoMemory.into()),

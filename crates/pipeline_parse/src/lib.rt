@@ -18,6 +18,3 @@ pub use parse_fault::ParseFault;
 pub use parser::parse_pipeline;
 pub use printing::print_pipeline;
 pub use word::Word;
-
-#[cfg(test)]
-mod tests;
