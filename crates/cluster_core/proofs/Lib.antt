@@ -19,3 +19,4 @@ pub mod Clocks
 pub mod TakeRows
 pub mod Departures
 pub mod PieceRows
+pub mod OwnPieces

@@ -1,5 +1,5 @@
 -- The units that are passed over have no event, and none of them is ready.
-use Rattle.std.proofs.Common.{◌≡◌, ℕ, zero, suc, ◌+◌, ◌<◌, ◌==◌, Bool, true, false, not, nat_le, ◌&&◌, cond, List, [], ◌∷◌, length, drop, filter, Option, None, Some, is_none, if◌then◌else◌, refl, sym, ap, ◌∙◌, arith}
+use Rattle.std.proofs.Common.{◌≡◌, ℕ, zero, suc, ◌+◌, ◌<◌, ◌==◌, Bool, true, false, not, nat_le, nat_lt, ◌&&◌, cond, List, [], ◌∷◌, length, drop, filter, Option, None, Some, is_none, if◌then◌else◌, refl, sym, ap, ◌∙◌, arith}
 use Rattle.std.specs.Bool.{beq}
 use Rattle.std.specs.List.{find}
 use Rattle.std.specs.Prelude.{slice_get}
@@ -12,7 +12,7 @@ use Rattle.cluster_model.specs.Units.{next_batch, read_by, reads, walks}
 use Rattle.cluster_laws.proofs.units.UnitPlaces.{running_open}
 use Rattle.cluster_calls.specs.Calling.{IsRest}
 use Rattle.cluster_core.specs.Insides.{IsCore, state_of}
-use Rattle.cluster_core.specs.Parts.{is_ready}
+use Rattle.cluster_core.specs.Parts.{is_ready, is_ready_behind}
 use Rattle.cluster_core.specs.Reading.{batch_now}
 use Rattle.cluster_core.specs.declared.cluster.Core.TheInside.{Inside}
 use Rattle.cluster_core.proofs.UnitPlaces.{core_numbered, found_by_number}
@@ -107,14 +107,20 @@ neither true true c h = h
 neither true false c h = refl
 neither false b c h = refl
 
--- the first of them that is ready is the first of all
-pub rest_ready : (fields : Inside) (st : State) (node : ℕ) (units : List Unit) → state_of fields ≡ st → IsRest fields.calls units → find (is_ready st node) units ≡ find (is_ready st node) st.calling.units
-rest_ready fields st node units view rest =
+-- a test and one that isn't passed
+not_both : (a b : Bool) → b ≡ false → (a && b) ≡ false
+not_both true b h = h
+not_both false b h = refl
+
+-- the first of them that is ready, with a number above this one, is the first of all
+pub rest_ready : (fields : Inside) (st : State) (node number : ℕ) (units : List Unit) → state_of fields ≡ st → IsRest fields.calls units → find (is_ready_behind st node number) units ≡ find (is_ready_behind st node number) st.calling.units
+rest_ready fields st node number units view rest =
     let was : State = state_of fields in
-    ap (λ (s : State). find (is_ready s node) units) (sym view)
-    ∙ ap (find (is_ready was node)) rest.rest
-    ∙ find-drop (is_ready was node) rest.skipped fields.calls.units (λ i u at low.
-    neither (u.work.node == node) (not (walks (call_of was.calling u.work.call))) (goes_on was.holding (call_of was.calling u.work.call) && (is_running u.work.state && (u.work.last && is_none u.flying)))
+    ap (λ (s : State). find (is_ready_behind s node number) units) (sym view)
+    ∙ ap (find (is_ready_behind was node number)) rest.rest
+    ∙ find-drop (is_ready_behind was node number) rest.skipped fields.calls.units (λ i u at low.
+    not_both (nat_lt number u.work.id) (is_ready was node u)
+    (neither (u.work.node == node) (not (walks (call_of was.calling u.work.call))) (goes_on was.holding (call_of was.calling u.work.call) && (is_running u.work.state && (u.work.last && is_none u.flying)))
     (closed_ends (goes_on was.holding (call_of was.calling u.work.call)) (is_running u.work.state) (u.work.last && is_none u.flying) (is_open_unit u) (is_unanswered (call_of was.calling u.work.call)) (rest.none i u at low)
-    (running_open u.work.state) (stopped was (call_of was.calling u.work.call))))
-    ∙ ap (λ (s : State). find (is_ready s node) s.calling.units) view
+    (running_open u.work.state) (stopped was (call_of was.calling u.work.call)))))
+    ∙ ap (λ (s : State). find (is_ready_behind s node number) s.calling.units) view

@@ -1,5 +1,5 @@
 -- The pieces of reductions, by the state.
-use Rattle.std.specs.Prelude.{ℕ, ◌==◌, Bool, not, ◌&&◌, cond, find, Option, None, Some}
+use Rattle.std.specs.Prelude.{ℕ, ◌==◌, nat_lt, Bool, not, ◌&&◌, cond, find, Option, None, Some}
 use Rattle.std.specs.Option.{option_map}
 use Rattle.pipeline_split.specs.Halves.{remote_of}
 use Rattle.pipeline_split.specs.Pieces.{piece}
@@ -33,6 +33,14 @@ abbrev pub is_ready : State → ℕ → Unit → Bool
 is_ready st node unit =
     (unit.work.node == node) && (not (walks (call_of st.calling unit.work.call)) && can_end_unit st (Some unit))
 
--- the least unit of a reduction at the node that may end, where there is one
+-- it is, and has a number above this one
+abbrev pub is_ready_behind : State → ℕ → ℕ → Unit → Bool
+is_ready_behind st node number unit = nat_lt number unit.work.id && is_ready st node unit
+
+-- the least unit of a reduction with a number above this one that is at the node and may end, where there is one
+abbrev pub ready_behind : State → ℕ → ℕ → Option ℕ
+ready_behind st node number = option_map (λ (unit : Unit). unit.work.id) (find (is_ready_behind st node number) st.calling.units)
+
+-- the least unit of a reduction at the node that may end, where there is one; units have numbers from 1 on
 abbrev pub ready_at : State → ℕ → Option ℕ
-ready_at st node = option_map (λ (unit : Unit). unit.work.id) (find (is_ready st node) st.calling.units)
+ready_at st node = ready_behind st node 0
