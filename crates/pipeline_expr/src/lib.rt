@@ -25,6 +25,3 @@ pub use op::Op;
 pub use pipeline::{Ops, Pipeline};
 pub use spread::{Exprs, Spread};
 pub use typing::check;
-
-#[cfg(test)]
-mod tests;
