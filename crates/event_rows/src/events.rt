@@ -8,8 +8,8 @@ ghost use Rattle.std.specs.Prelude.{◌≡◌, true, IsSome};
 ghost use Rattle.grid_event.specs.Configs.{is_config};
 
 use anyhow::{Context, Result, bail};
+use event_texts::{EventFault, print_event, read_event};
 use grid_event::{Config, Journal, Partition, ValueKind};
-use grid_journal::{EventFault, print_event, read_event};
 use std::alloc::Global;
 use topology_phase::Aim;
 

@@ -1,12 +1,5 @@
-pub mod Joining
 pub mod Places
 pub mod Rows
-pub mod ReadLaws
-pub mod NumberLaws
-pub mod FieldLaws
-pub mod CallLaws
-pub mod EventLaws
-pub mod Turns
 pub mod Trees
 pub mod Lasting
 pub mod FirstNodes

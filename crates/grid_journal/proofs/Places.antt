@@ -5,8 +5,8 @@ use Rattle.std.specs.List.{slice_get}
 use Rattle.grid_event.specs.declared.event.Event.{Event}
 use Rattle.grid_event.specs.declared.idle.Idle.{Idle}
 use Rattle.grid_journal.specs.Reports.{events_text, idle_text, line, run_text}
-use Rattle.grid_journal.specs.Events.{event_text}
-use Rattle.grid_journal.specs.Words.{words}
+use Rattle.event_texts.specs.Events.{event_text}
+use Rattle.event_texts.specs.Words.{words}
 use Rattle.std.specs.Prelude.{decimal}
 
 -- the item at a place stands in front of those behind it

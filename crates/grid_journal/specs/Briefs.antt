@@ -16,11 +16,11 @@ use Rattle.topology_phase.specs.Topologies.{Topology}
 use Rattle.serde_json.specs.Data.{Data, array, member, no_members, number, object, string, unsigned}
 use Rattle.serde_json.specs.View.{items_of}
 use Rattle.serde_json.specs.Written.{compact_text}
-use Rattle.grid_journal.specs.Events.{outcome_text}
+use Rattle.event_texts.specs.Events.{outcome_text}
 use Rattle.grid_journal.specs.Rebalances.{told_least}
 use Rattle.grid_journal.specs.Reports.{config_text, line}
-use Rattle.grid_journal.specs.Topologies.{hash_text, owners_text, phase_text}
-use Rattle.grid_journal.specs.Words.{words}
+use Rattle.event_texts.specs.Topologies.{hash_text, owners_text, phase_text}
+use Rattle.event_texts.specs.Words.{words}
 
 -- the call that asked for a unit: the one whose round did so last
 abbrev pub asker_of : List Event → ℕ → Option ℕ

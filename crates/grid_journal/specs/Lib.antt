@@ -1,13 +1,5 @@
-pub mod Words
-pub mod Topologies
-pub mod Events
 pub mod Reports
 pub mod Rebalances
-pub mod Faults
-pub mod Kinds
-pub mod Fits
-pub mod Reading
-pub mod Answers
 pub mod Briefs
 pub mod Standing
 pub mod Lasting

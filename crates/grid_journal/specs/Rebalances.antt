@@ -13,7 +13,7 @@ use Rattle.topology_phase.specs.Topologies.{Topology}
 use Rattle.topology_phase.specs.declared.phase.Phase.{Phase}
 use Rattle.topology_phase.specs.declared.phase.Phase.TheVariants.{NoRebalance, ReadOld}
 use Rattle.grid_journal.specs.Reports.{line}
-use Rattle.grid_journal.specs.Words.{words}
+use Rattle.event_texts.specs.Words.{words}
 
 -- a node with its loads by two hashes
 unfoldable pub load_text : Hash → Hash → ℕ → List ℕ

@@ -13,9 +13,9 @@ use Rattle.hash_factory.specs.Formulas.{created}
 use Rattle.topology_phase.specs.Owners.{Hash}
 use Rattle.topology_phase.specs.declared.aim.Aim.{Aim}
 use Rattle.topology_phase.specs.declared.aim.Aim.TheVariants.{Create, Least}
-use Rattle.grid_journal.specs.Topologies.{hash_text}
-use Rattle.grid_journal.specs.Words.{words}
-use Rattle.grid_journal.specs.Events.{event_text}
+use Rattle.event_texts.specs.Topologies.{hash_text}
+use Rattle.event_texts.specs.Words.{words}
+use Rattle.event_texts.specs.Events.{event_text}
 
 -- the text and the line feed that ends it
 abbrev pub line : List ℕ → List ℕ

@@ -7,14 +7,13 @@ ghost use Rattle.grid_event.specs.Configs.{is_config};
 ghost use Rattle.grid_journal.specs.Briefs.{brief_of, brief_text, call_text, calls_text, ends_text, result_text};
 ghost use Rattle.grid_journal.specs.Reports.{line};
 ghost use Rattle.grid_journal.specs.Standing.{standing_members, standing_topology};
-ghost use Rattle.grid_journal.specs.Topologies.{owners_text};
-ghost use Rattle.grid_journal.specs.Words.{each_behind};
+ghost use Rattle.event_texts.specs.Topologies.{owners_text};
+ghost use Rattle.event_texts.specs.Words.{each_behind};
 
-use crate::outcomes::add_outcome;
 use crate::rebalances::add_rebalances;
 use crate::reports::add_config;
 use crate::standing::Standing;
-use crate::words::{add_number, add_number_word};
+use event_texts::{add_number, add_number_word, add_outcome};
 use grid_base::{Bytes, NoMemory};
 use grid_event::{Config, Journal, Outcome};
 use std::alloc::Global;

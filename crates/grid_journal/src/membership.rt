@@ -7,13 +7,13 @@ ghost use Rattle.grid_event.specs.Configs.{is_config};
 ghost use Rattle.topology_phase.specs.Topologies.{holders};
 ghost use Rattle.grid_journal.specs.Reports.{first_hash};
 ghost use Rattle.grid_journal.specs.Briefs.{standing_text};
-ghost use Rattle.grid_journal.specs.Topologies.{hash_text, phase_text};
-ghost use Rattle.grid_journal.specs.Words.{words};
+ghost use Rattle.event_texts.specs.Topologies.{hash_text, phase_text};
+ghost use Rattle.event_texts.specs.Words.{words};
 ghost use Rattle.grid_journal.specs.Standing.{loses, loses_key, membership_of, stands_live, standing_members, standing_topology, with_member, with_move};
 ghost use Rattle.topology_phase.specs.Phases.{same_phase};
 
 use crate::numbered::Numbered;
-use crate::topologies::{add_hash, add_phase};
+use event_texts::{add_hash, add_phase};
 use grid_base::{Bytes, Key, NoMemory, NodeId, NodeSet, SegmentId, Sequence};
 use grid_event::{Config, Event};
 use hash_factory::create;

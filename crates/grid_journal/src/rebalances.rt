@@ -6,10 +6,10 @@ ghost use Rattle.topology_phase.specs.Phases.{same_phase};
 ghost use Rattle.grid_journal.specs.Rebalances.{least_line, least_lines, least_text, load_text, loads_text, told_least};
 ghost use Rattle.grid_journal.specs.Reports.{line};
 ghost use Rattle.grid_journal.specs.Standing.{event_line, standing_members, standing_topology, with_member};
-ghost use Rattle.grid_journal.specs.Words.{each_behind};
+ghost use Rattle.event_texts.specs.Words.{each_behind};
 
 use crate::membership::Membership;
-use crate::words::{add_number, add_number_word};
+use event_texts::{add_number, add_number_word};
 use grid_base::{Bytes, NoMemory, NodeId};
 use grid_event::{Config, Event, Journal};
 use hash_factory::{load, moved};

@@ -4,13 +4,11 @@ ghost use Rattle.std.specs.Prelude.{◌≡◌, ◌+◌, ◌<◌, ◌≤◌, ◌-
 ghost use Rattle.hash_factory.specs.Formulas.{created_owners};
 ghost use Rattle.grid_journal.specs.Reports.{aim_text, config_text, end_line, events_text, first_hash, first_nodes, first_text, idle_text, kind_text, kinds_text, line};
 ghost use Rattle.grid_journal.specs.Reports.{partition_text, report_text, run_text, sizes_text};
-ghost use Rattle.grid_journal.specs.Events.{event_text};
-ghost use Rattle.grid_journal.specs.Topologies.{hash_text, owners_text};
-ghost use Rattle.grid_journal.specs.Words.{words};
+ghost use Rattle.event_texts.specs.Events.{event_text};
+ghost use Rattle.event_texts.specs.Topologies.{hash_text, owners_text};
+ghost use Rattle.event_texts.specs.Words.{words};
 
-use crate::events::add_event;
-use crate::topologies::add_between;
-use crate::words::{add_number, add_number_word};
+use event_texts::{add_between, add_event, add_number, add_number_word};
 use grid_base::{Bytes, NoMemory};
 use grid_event::{Config, Event, Idle, Journal, Partition, ValueKind};
 use std::alloc::Global;

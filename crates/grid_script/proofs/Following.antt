@@ -4,7 +4,7 @@ use Rattle.grid_event.specs.declared.config.Config.{Config}
 use Rattle.grid_script.specs.declared.head_words.Setting.{Setting}
 use Rattle.grid_script.specs.declared.reason.Reason.{Reason}
 use Rattle.grid_script.specs.Judging.{Judged, ◌>>=◌, on_line}
-use Rattle.grid_script.specs.Lines.{Line}
+use Rattle.text_lines.specs.Lines.{Line}
 use Rattle.grid_script.specs.Reading.{after_all}
 use Rattle.grid_script.specs.Settings.{found_or, setting_from, setting_line_in}
 

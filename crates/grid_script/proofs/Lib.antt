@@ -1,4 +1,3 @@
-pub mod Cutting
 pub mod Pipelines
 pub mod MarkedSets
 pub mod CallSets

@@ -5,7 +5,7 @@ use Rattle.grid_script.specs.declared.script_fault.ScriptFault.{ScriptFault}
 use Rattle.grid_script.specs.declared.script_fault.ScriptFault.TheVariants.{Refused, NoMemory}
 use Rattle.grid_script.specs.declared.settings.Head.{Head}
 use Rattle.grid_script.specs.Judging.{Told}
-use Rattle.grid_script.specs.Lines.{lines_of}
+use Rattle.text_lines.specs.Lines.{lines_of}
 use Rattle.grid_script.specs.Settings.{Behind}
 
 -- the settings, and the lines behind them

@@ -12,7 +12,8 @@ use Rattle.grid_script.specs.declared.script_kind.ScriptKind.{ScriptKind}
 use Rattle.grid_script.specs.declared.script_kind.ScriptKind.TheVariants as kind
 use Rattle.grid_script.specs.declared.section.Section.TheVariants.{Start}
 use Rattle.grid_script.specs.Judging.{Judged, Told, ◌>>=◌, on_line}
-use Rattle.grid_script.specs.Lines.{Line, needs_whole, lines_of, says_nothing}
+use Rattle.grid_script.specs.Lines.{needs_whole, says_nothing}
+use Rattle.text_lines.specs.Lines.{Line, lines_of}
 use Rattle.grid_script.specs.LiveLines.{lives_of, told_in, with_told}
 use Rattle.grid_script.specs.Rules.{first_members}
 use Rattle.grid_script.specs.Settings.{Behind, head_of}

@@ -20,7 +20,8 @@ use Rattle.grid_script.specs.declared.script_kind.ScriptKind.{ScriptKind}
 use Rattle.grid_script.specs.declared.script_kind.ScriptKind.TheVariants as kind
 use Rattle.grid_script.specs.Fields.{end_at, last_number}
 use Rattle.grid_script.specs.Judging.{Judged, Told, ◌>>=◌, needs, on_line, spelt}
-use Rattle.grid_script.specs.Lines.{Line, needs_whole, says_nothing}
+use Rattle.grid_script.specs.Lines.{needs_whole, says_nothing}
+use Rattle.text_lines.specs.Lines.{Line}
 use Rattle.grid_script.specs.Rules.{within}
 
 -- the first line names the kind of the script

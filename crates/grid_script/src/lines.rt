@@ -1,45 +1,16 @@
-//! Cutting a script into its lines.
+//! What is asked of a line of a script, and what its number is.
 
-ghost use Rattle.std.specs.Prelude.{◌≡◌, ◌<◌, ◌∷◌, length};
+ghost use Rattle.std.specs.Prelude.{◌≡◌};
 ghost use Rattle.grid_script.specs.Faults.{script_fault_of};
 ghost use Rattle.grid_script.specs.Judging.{Says};
-ghost use Rattle.grid_script.specs.Lines.{Line, needs_whole, lines_of, says_nothing};
+ghost use Rattle.grid_script.specs.Lines.{needs_whole, says_nothing};
+ghost use Rattle.text_lines.specs.Lines.{Line};
 
 use crate::line_fault::LineFault;
 use crate::reason::Reason;
 use crate::rules::needs;
 use crate::script_fault::ScriptFault;
 use grid_base::limits::LONGEST_LINE;
-use memchr::memchr;
-
-/// The first line of a text: its bytes, whether a line feed ends it, and the text behind.
-#[derive(Clone, Copy, Debug)]
-pub(crate) struct Cut<'a> {
-    pub line: &'a [u8],
-    pub ended: bool,
-    pub rest: &'a [u8],
-}
-
-/// Cuts off the first line of a text.
-#[tactic(auto, using(crate::proofs::Cutting::first_of, crate::proofs::Cutting::last_of))]
-pub(crate) fn first_line(text: &[u8]) -> Cut<'_>
-    requires { 0 < length text.now }
-    ensures cut { lines_of text.now ≡ record { bytes = result.line.now; ended = result.ended } ∷ lines_of result.rest.now }
-    ensures shorter { length result.rest.now < length text.now }
-{
-    match memchr(b'\n', text) {
-        Some(at) => Cut {
-            line: &text[..at],
-            ended: true,
-            rest: &text[at + 1..],
-        },
-        None => Cut {
-            line: text,
-            ended: false,
-            rest: b"",
-        },
-    }
-}
 
 /// Refuses a line of more than 1,024 bytes, and one without a line feed at its end.
 #[tactic(auto, unfolding(crate::specs::Lines::needs_whole))]

@@ -4,7 +4,7 @@ ghost use Rattle.std.specs.Prelude.{◌≡◌, ℕ, ◌+◌, ◌<◌, ◌≤◌,
 ghost use Rattle.grid_base.specs.declared.limits.TheConstants.{LAST_CLOCK, LONGEST_SCRIPT};
 ghost use Rattle.grid_event.specs.Configs.{is_config};
 ghost use Rattle.grid_script.specs.Judging.{Answers, Says};
-ghost use Rattle.grid_script.specs.Lines.{Line, lines_of};
+ghost use Rattle.text_lines.specs.Lines.{Line, lines_of};
 ghost use Rattle.grid_script.specs.LiveLines.{IsNotedDeed, IsSoFar, MayTell, all_sessions, section_with, with_members, with_told};
 ghost use Rattle.grid_script.specs.LiveRules.{calls_with, members_with, node_of};
 ghost use Rattle.grid_script.specs.Reading.{after_all, body_of, live_after, live_start, script_of, step_after, step_start};
@@ -14,7 +14,7 @@ use crate::call_set::CallSet;
 use crate::deed::Deed;
 use crate::known::Known;
 use crate::line_fault::LineFault;
-use crate::lines::{first_line, needs_whole, on_line, says_nothing};
+use crate::lines::{needs_whole, on_line, says_nothing};
 use crate::live_known::LiveKnown;
 use crate::live_lines::read_told;
 use crate::live_script::LiveScript;
@@ -38,6 +38,7 @@ use grid_base::{Entry, NoMemory};
 use grid_event::{Command, Config};
 use sqlite_items::Items;
 use std::alloc::Global;
+use text_lines::first_line;
 
 /// Reads the script of this kind for which the bytes stand. They stand for at most one. Where they
 /// stand for none, the refusal names the first line at fault, counted from 1, with the first reason

@@ -4,13 +4,13 @@ ghost use Rattle.std.specs.Prelude.{◌≡◌, ◌+◌, ◌<◌, ◌≤◌, ◌^
 ghost use Rattle.grid_base.specs.declared.limits.TheConstants.{LONGEST_SCRIPT};
 ghost use Rattle.grid_event.specs.Configs.{is_config};
 ghost use Rattle.grid_script.specs.Judging.{Says};
-ghost use Rattle.grid_script.specs.Lines.{Line, lines_of};
+ghost use Rattle.text_lines.specs.Lines.{Line, lines_of};
 ghost use Rattle.grid_script.specs.Settings.{aim_from, aim_in, is_skipped, with_aim, head_of, needs_kind_line, number_within, partition_in, same_kind, setting_from, setting_in, setting_line_in, settings, settings_from, unset, values_in, with_setting};
 ghost use Rattle.grid_script.specs.Heads.{Heads, behind_of};
 
 use crate::head_words::{Setting, read_kind, read_partition_word, read_values_word, setting_word};
 use crate::line_fault::LineFault;
-use crate::lines::{first_line, needs_whole, on_line, says_nothing};
+use crate::lines::{needs_whole, on_line, says_nothing};
 use crate::readers::{read_end, read_last_number};
 use crate::reason::Reason;
 use crate::rules;
@@ -20,6 +20,7 @@ use crate::script_kind::ScriptKind;
 use grid_base::limits::{LONGEST_LINE, MOST_CHUNK, MOST_NODES, MOST_OWNERS, MOST_SEGMENTS};
 use grid_event::{Config, Partition, ValueKind};
 use pipeline_parse::reading::read_literal;
+use text_lines::first_line;
 use topology_phase::Aim;
 
 /// The settings so far, the number of the next line, and the text from that line on.

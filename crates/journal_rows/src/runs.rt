@@ -9,9 +9,10 @@ ghost use Rattle.std.specs.Prelude.{◌≡◌, true, IfOk, IsSome};
 ghost use Rattle.grid_event.specs.Configs.{is_config};
 
 use anyhow::{Context, Result, bail};
+use event_texts::read_event;
 use grid_base::Bytes;
 use grid_event::{Config, Journal};
-use grid_journal::{brief, brief_json, read_event, report};
+use grid_journal::{brief, brief_json, report};
 use grid_script::{Script, ScriptKind, read_script};
 use std::alloc::Global;
 use std::fs;

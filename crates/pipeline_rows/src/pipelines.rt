@@ -2,9 +2,9 @@
 //! and the value, as reports write them, with ` => ` between each two.
 
 use anyhow::{Context, Result, bail};
+use event_texts::{print_event, read_event};
 use grid_base::{Bytes, CallId};
 use grid_event::{Answer, AnswerEvent, Event, Outcome};
-use grid_journal::{print_event, read_event};
 use pipeline_eval::run_plain_pipeline;
 use pipeline_parse::parse_pipeline;
 use sqlite_items::Boxed;

@@ -1,6 +1,6 @@
 use Rattle.std.proofs.Common.{◌++◌, ap, ◌∙◌}
 use Rattle.std.specs.Fmt.{decimal}
-use Rattle.grid_journal.proofs.Joining.{row_whole}
+use Rattle.event_texts.proofs.Joining.{row_whole}
 use Rattle.grid_journal.proofs.briefs.add_nodes.Goals as goal
 
 pub returns : goal.returns

@@ -1,6 +1,6 @@
 use Rattle.std.proofs.Common.{◌++◌, ap, ◌∙◌}
 use Rattle.grid_journal.specs.Rebalances.{load_text}
-use Rattle.grid_journal.proofs.Joining.{row_whole}
+use Rattle.event_texts.proofs.Joining.{row_whole}
 use Rattle.grid_journal.proofs.rebalances.add_loads.Goals as goal
 
 pub returns : goal.returns

@@ -1,6 +1,6 @@
 use Rattle.std.proofs.Common.{◌≡◌, ◌++◌, map, drop}
 use Rattle.grid_journal.specs.Rebalances.{load_text}
-use Rattle.grid_journal.specs.Words.{each_behind}
+use Rattle.event_texts.specs.Words.{each_behind}
 use Rattle.grid_journal.proofs.rebalances.add_other_loads.Given as goal
 
 -- what stands there and the text of the nodes left are the whole

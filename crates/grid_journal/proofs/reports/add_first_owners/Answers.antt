@@ -1,6 +1,6 @@
 use Rattle.std.proofs.Common.{◌≡◌, ◌++◌, map, min, ap, ◌∙◌, arith}
 use Rattle.std.specs.List.{join_with_byte, range_with_len}
-use Rattle.grid_journal.proofs.Joining.{row_step}
+use Rattle.event_texts.proofs.Joining.{row_step}
 use Rattle.grid_journal.proofs.Rows.{first_owner_text, first_owners_whole}
 use Rattle.grid_journal.proofs.reports.add_first_owners.Goals as goal
 

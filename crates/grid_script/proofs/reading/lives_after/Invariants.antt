@@ -1,5 +1,5 @@
 use Rattle.std.proofs.Common.{◌≡◌, ◌+◌, ◌≤◌, length}
-use Rattle.grid_script.specs.Lines.{lines_of}
+use Rattle.text_lines.specs.Lines.{lines_of}
 use Rattle.grid_script.specs.LiveLines.{IsSoFar}
 use Rattle.grid_script.specs.Reading.{after_all, live_after}
 use Rattle.grid_script.proofs.reading.lives_after.Given as goal

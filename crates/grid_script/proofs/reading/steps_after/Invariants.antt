@@ -1,7 +1,7 @@
 use Rattle.std.proofs.Common.{◌≡◌, ◌+◌, ◌≤◌, true, length}
 use Rattle.grid_base.specs.declared.limits.TheConstants.{LAST_CLOCK}
 use Rattle.grid_event.specs.Configs.{is_config}
-use Rattle.grid_script.specs.Lines.{lines_of}
+use Rattle.text_lines.specs.Lines.{lines_of}
 use Rattle.grid_script.specs.Reading.{after_all, step_after}
 use Rattle.grid_script.proofs.reading.steps_after.Given as goal
 

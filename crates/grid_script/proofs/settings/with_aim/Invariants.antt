@@ -1,5 +1,5 @@
 use Rattle.std.proofs.Common.{◌≡◌, ◌+◌, ◌≤◌, length}
-use Rattle.grid_script.specs.Lines.{lines_of}
+use Rattle.text_lines.specs.Lines.{lines_of}
 use Rattle.grid_script.specs.Settings.{aim_from}
 use Rattle.grid_script.proofs.settings.with_aim.Given as goal
 

@@ -1,6 +1,0 @@
-use Rattle.grid_journal.proofs.Joining.{asks_whole}
-use Rattle.grid_journal.proofs.events.add_asks.Goals as goal
-
-pub returns : goal.returns
-returns c =
-    asks_whole c.args.asks.now c.in-Some.first.now c.in-Some.others.now _ _ _ c.in-Some.ensures.cases.0 c.in_ok-add_ask.ensures c.in_ok-add_other_asks.ensures

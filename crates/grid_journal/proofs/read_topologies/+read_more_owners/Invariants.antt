@@ -1,4 +1,0 @@
-use Rattle.grid_journal.proofs.read_topologies.+read_more_owners.Given as goal
-
-abbrev pub decreases-read_more_owners : goal.decreases-read_more_owners
-decreases-read_more_owners l = l.room

@@ -1,4 +1,0 @@
-use Rattle.grid_journal.proofs.read_topologies.+read_more_rows.Given as goal
-
-abbrev pub decreases-read_more_rows : goal.decreases-read_more_rows
-decreases-read_more_rows l = l.room

@@ -1,8 +1,0 @@
-use Rattle.std.proofs.Common.{◌≡◌, ◌++◌, map, drop}
-use Rattle.grid_journal.specs.Words.{each_behind, item_text}
-use Rattle.grid_journal.proofs.words.add_each_item.Given as goal
-
--- what stands there and the text of those left are the whole
-abbrev pub invariant-loop-item : goal.invariant-loop-item
-invariant-loop-item l =
-    l.out.list ++ each_behind 32 (map item_text (drop l.item-index l.items)) ≡ l.initial.out.list ++ each_behind 32 (map item_text l.items)

@@ -1,0 +1,12 @@
+pub mod LineLaws
+pub mod Growing
+pub mod Keeping
+pub mod OneLine
+pub mod Settings
+pub mod Fronts
+pub mod Whole
+pub mod Heads
+pub mod Exact
+pub mod FirstTopology
+pub mod TakenLines
+pub mod ReadContract

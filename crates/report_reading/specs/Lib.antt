@@ -1,0 +1,5 @@
+pub mod ReportLines
+pub mod ReportReading
+pub mod WholeReports
+pub mod OneLines
+pub mod Taking
