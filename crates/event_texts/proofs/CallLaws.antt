@@ -37,9 +37,11 @@ use Rattle.event_texts.proofs.FieldLaws.{any, blank_law, items_law}
 pub u8_law : Law calm (λ n. 32 ∷ decimal n) is_u8 (number_in 255)
 u8_law = number_in_law 255 (omega arith) (omega arith)
 
+-- numbers below 65,536 are read exactly behind a blank
 pub u16_law : Law calm (λ n. 32 ∷ decimal n) is_u16 (number_in 65535)
 u16_law = number_in_law 65535 (omega arith) (omega arith)
 
+-- and so are those below 2 ^ 32
 pub u32_law : Law calm (λ n. 32 ∷ decimal n) is_u32 (number_in 4294967295)
 u32_law = number_in_law 4294967295 (omega arith) (omega arith)
 
@@ -140,9 +142,11 @@ request_law =
     (λ (r : Request). (r.guarantee, (r.rounds, (r.batch, r.pipeline)))) (λ r. 32 ∷ request_text r) request_fits (λ r. refl) (λ p. refl) (λ p. refl)
     (pair_law guarantee_law (pair_law u8_law (pair_law u16_law (blank_law pipeline_law) (λ x y e. refl)) (λ x y e. refl)) (λ x y e. refl))
 
+-- a segment is read exactly behind its colon
 colon_law : Law calm (λ n. 58 ∷ decimal n) is_u16 (behind (58 ∷ []) (number 65535))
 colon_law = behind_law (58 ∷ []) (number_law 65535 (omega arith) (omega arith))
 
+-- and a node behind its at sign
 at_law : Law calm (λ n. 64 ∷ decimal n) is_u8 (behind (64 ∷ []) (number 255))
 at_law = behind_law (64 ∷ []) (number_law 255 (omega arith) (omega arith))
 
@@ -164,9 +168,11 @@ ask_begins a y keeps =
     le_from : (m n : ℕ) → nat_le m n ≡ true → m ≤ n
     le_from m n e = grind (arith, nat_tests)
 
+-- a comma ends a number
 comma_is_calm : (s : List ℕ) → calm (44 ∷ s) ≡ true
 comma_is_calm s = refl
 
+-- no number begins where a text ends
 end_no_number : (y : List ℕ) → at_end y ≡ true → begins_number y ≡ false
 end_no_number [] e = refl
 end_no_number (b ∷ y) e = ap (λ c. begins_number (c ∷ y)) (eqb-true b 32 e)
@@ -221,6 +227,7 @@ asks_law = record { sound = λ s p e. from s p (begins_number s) e; full = whole
 best_in : List ℕ → Reading (Option Datum)
 best_in = behind (32 ∷ []) (choice (codes "none") (just None) (made Some datum))
 
+-- the best value of an answer is read exactly, or that there is none
 best_law : Law calm (λ b. 32 ∷ best_text b) best_fits best_in
 unfolding best_in
 best_law = record {
@@ -236,6 +243,7 @@ best_law = record {
         ap (λ o. by_word o (just None) (made Some datum (datum_text d ++ y))) (other_missed 110 (codes "one") (datum_text d ++ y) (datum_other 110 refl refl refl d y keeps ended)).1
         ∙ ap (λ o. after o (λ d rest. Some (Some d, rest))) (datum_law.full d y keeps ended)
 
+-- numbers below 2 ^ 64 are read exactly behind a blank
 u64_law : Law calm (λ n. 32 ∷ decimal n) is_u64 (number_in 18446744073709551615)
 u64_law = number_in_law 18446744073709551615 (omega arith) (omega arith)
 
@@ -258,6 +266,7 @@ answer_law = record {
     each (answers.Best b) y keeps ended = ap (λ o. after o (λ b rest. Some (answers.Best b, rest))) (best_law.full b y keeps (end_is_calm y ended))
     each (answers.List l) y keeps ended = ap (λ o. after o (λ l rest. Some (answers.List l, rest))) (items_law.full l y keeps ended)
 
+-- the rounds of `again` and its suspect are read exactly
 again_law : Law calm (λ (p : ℕ × ℕ). (32 ∷ decimal p.0) ++ (32 ∷ decimal p.1)) (λ p. is_u8 p.0 && is_u16 p.1) (pairs (number_in 255) (number_in 65535))
 again_law = pair_law u8_law u16_law (λ x y e. refl)
 

@@ -45,6 +45,7 @@ record_law : {A B : Type 0} {ends : List ℕ → Bool} {text : A → List ℕ} {
     → Law ends text fits r → Law ends (λ b. text (d b)) (λ b. fits (d b)) (made c r)
 record_law {A} {B} {ends} {text} {fits} {r} c d back forth law = made_law c d (λ b. text (d b)) (λ b. fits (d b)) back (λ a. ap text (forth a)) (λ a. ap fits (forth a)) law
 
+-- a test and one that passes, together, are the test
 and_true : (b : Bool) → b ≡ (b && true)
 and_true true = refl
 and_true false = refl
@@ -56,54 +57,64 @@ write_law =
     record_law (λ (p : ℕ × (ℕ × (List ℕ × (Datum × Option ℕ)))). record { by = p.0; node = p.1.0; key = p.1.1.0; value = p.1.1.1.0; until = p.1.1.1.1 }) (λ (x : WriteEvent). (x.by, (x.node, (x.key, (x.value, x.until))))) (λ x. refl) (λ p. refl)
     (pair_law u16_law (pair_law u8_law (pair_law (blank_law key_law) (pair_law datum_in_law until_law tilde_is_calm) (λ x y e. refl)) (λ x y e. refl)) (λ x y e. refl))
 
+-- erasures are read exactly
 erase_law : Law at_end (λ (x : EraseEvent). (32 ∷ decimal x.by) ++ ((32 ∷ decimal x.node) ++ (32 ∷ x.key))) (λ x. is_u16 x.by && (is_u8 x.node && is_key x.key)) erase_in
 unfolding erase_in
 erase_law =
     record_law (λ (p : ℕ × (ℕ × List ℕ)). record { by = p.0; node = p.1.0; key = p.1.1 }) (λ (x : EraseEvent). (x.by, (x.node, x.key))) (λ x. refl) (λ p. refl)
     (pair_law u16_law (pair_law u8_law (blank_law key_law) (λ x y e. refl)) (λ x y e. refl))
 
+-- so are copies
 copy_law : Law at_end (λ (x : CopyEvent). (32 ∷ decimal x.receiver) ++ ((32 ∷ decimal x.segment) ++ ((32 ∷ decimal x.provider) ++ ((32 ∷ counted_text stamped_entry_text x.batch.entries) ++ (32 ∷ last_text x.batch.last))))) (λ x. is_u8 x.receiver && (is_u16 x.segment && (is_u8 x.provider && (all_fit stamped_entry_fits x.batch.entries && any x.batch.last)))) copy_in
 unfolding copy_in
 copy_law =
     record_law (λ (p : ℕ × (ℕ × (ℕ × (List StampedEntry × Bool)))). record { receiver = p.0; segment = p.1.0; provider = p.1.1.0; batch = record { entries = p.1.1.1.0; last = p.1.1.1.1 } }) (λ (x : CopyEvent). (x.receiver, (x.segment, (x.provider, (x.batch.entries, x.batch.last))))) (λ x. refl) (λ p. refl)
     (pair_law u8_law (pair_law u16_law (pair_law u8_law (pair_law stamped_entries_law last_law (λ x y e. refl)) (λ x y e. refl)) (λ x y e. refl)) (λ x y e. refl))
 
+-- so are invocations
 invoke_law : Law at_last (λ (x : InvokeEvent). (32 ∷ decimal x.by) ++ ((32 ∷ decimal x.call) ++ ((32 ∷ decimal x.node) ++ (32 ∷ request_text x.request)))) (λ x. is_u16 x.by && (is_u32 x.call && (is_u8 x.node && request_fits x.request))) invoke_in
 unfolding invoke_in
 invoke_law =
     record_law (λ (p : ℕ × (ℕ × (ℕ × Request))). record { by = p.0; call = p.1.0; node = p.1.1.0; request = p.1.1.1 }) (λ (x : InvokeEvent). (x.by, (x.call, (x.node, x.request)))) (λ x. refl) (λ p. refl)
     (pair_law u16_law (pair_law u32_law (pair_law u8_law request_law (λ x y e. refl)) (λ x y e. refl)) (λ x y e. refl))
 
+-- so are rounds
 round_law : Law at_end (λ (x : RoundEvent). (32 ∷ decimal x.call) ++ ((32 ∷ decimal x.id) ++ (32 ∷ asks_text x.asks))) (λ x. is_u32 x.call && (is_u32 x.id && list_all ask_fits x.asks)) round_in
 unfolding round_in
 round_law =
     record_law (λ (p : ℕ × (ℕ × List Ask)). record { call = p.0; id = p.1.0; asks = p.1.1 }) (λ (x : RoundEvent). (x.call, (x.id, x.asks))) (λ x. refl) (λ p. refl)
     (pair_law u32_law (pair_law u32_law (blank_law asks_law) (λ x y e. refl)) (λ x y e. refl))
 
+-- so are batches of units
 batch_law : Law at_end (λ (x : ℕ × Portion Entry). (32 ∷ decimal x.0) ++ ((32 ∷ counted_text entry_text x.1.entries) ++ (32 ∷ last_text x.1.last))) (λ x. is_u32 x.0 && (all_fit entry_fits x.1.entries && any x.1.last)) batch_in
 unfolding batch_in
 batch_law =
     record_law (λ (p : ℕ × (List Entry × Bool)). (p.0, record { entries = p.1.0; last = p.1.1 })) (λ (x : ℕ × Portion Entry). (x.0, (x.1.entries, x.1.last))) (λ x. refl) (λ p. refl)
     (pair_law u32_law (pair_law entries_law last_law (λ x y e. refl)) (λ x y e. refl))
 
+-- so are takings
 take_law : Law at_end (λ (x : Taking). (32 ∷ decimal x.unit) ++ ((32 ∷ counted_text entry_text x.entries) ++ (32 ∷ counted_text item_text x.given))) (λ x. is_u32 x.unit && (all_fit entry_fits x.entries && all_fit item_fits x.given)) take_in
 unfolding take_in
 take_law =
     record_law (λ (p : ℕ × (List Entry × List Item)). record { unit = p.0; entries = p.1.0; given = p.1.1 }) (λ (x : Taking). (x.unit, (x.entries, x.given))) (λ x. refl) (λ p. refl)
     (pair_law u32_law (pair_law entries_law items_law (λ x y e. refl)) (λ x y e. refl))
 
+-- so are answers
 answer_event_law : Law at_end (λ (x : AnswerEvent). (32 ∷ decimal x.call) ++ (32 ∷ outcome_text x.outcome)) (λ x. is_u32 x.call && outcome_fits x.outcome) answer_event_in
 unfolding answer_event_in
 answer_event_law =
     record_law (λ (p : ℕ × Outcome). record { call = p.0; outcome = p.1 }) (λ (x : AnswerEvent). (x.call, x.outcome)) (λ x. refl) (λ p. refl)
     (pair_law u32_law outcome_law (λ x y e. refl))
 
+-- so are installations
 install_law : Law calm (λ (p : ℕ × ℕ). (32 ∷ decimal p.0) ++ (32 ∷ decimal p.1)) (λ p. is_u8 p.0 && is_u32 p.1) (pairs (number_in 255) (number_in 4294967295))
 install_law = pair_law u8_law u32_law (λ x y e. refl)
 
+-- so are landings
 land_law : Law calm (λ (p : ℕ × ℕ). (32 ∷ decimal p.0) ++ (32 ∷ decimal p.1)) (λ p. is_u8 p.0 && is_u16 p.1) (pairs (number_in 255) (number_in 65535))
 land_law = pair_law u8_law u16_law (λ x y e. refl)
 
+-- so are beginnings of units
 begin_law : Law at_end (λ (p : ℕ × Bool). (32 ∷ decimal p.0) ++ (32 ∷ runs_text p.1)) (λ p. is_u32 p.0 && any p.1) (pairs (number_in 4294967295) runs_in)
 begin_law = pair_law u32_law runs_law (λ x y e. refl)
 
@@ -177,11 +188,13 @@ event_full (events.Take x) keeps = full_by kind.Take events.Take take_law x refl
 event_full (events.Done x) keeps = full_by kind.Done events.Done u32_law x refl (λ z. refl) refl refl keeps
 event_full (events.Answer x) keeps = full_by kind.Answer events.Answer answer_event_law x refl (λ z. refl) refl refl keeps
 
+-- a reading of the whole leaves nothing
 whole_found : {A : Type 0} (r : Reading A) (a : A) → whole_of r ≡ Some a → r ≡ Some (a, [])
 whole_found None a e = absurd (none-some a e)
 whole_found (Some (x, [])) a e = ap (λ z. Some (z, [])) (same_Some x a e)
 whole_found (Some (x, b ∷ s)) a e = absurd (none-some a e)
 
+-- the word of a kind that was read stands in front
 kind_sound : (s : List ℕ) (p : Kind × List ℕ) → found (word_at kind_word kinds s) ≡ Some p → s ≡ kind_word p.0 ++ p.1
 kind_sound s p e = (found_sound kind_word (λ k. true) (word_at kind_word kinds) (word_reads kind_word (λ k. true) kind.Write kinds refl refl refl) s p e).0
 

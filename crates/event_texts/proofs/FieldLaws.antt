@@ -47,6 +47,7 @@ pub tilde_is_calm : (o : Option ℕ) (y : List ℕ) → at_end y ≡ true → ca
 tilde_is_calm None y e = end_is_calm y e
 tilde_is_calm (Some n) y e = refl
 
+-- entries with deadlines are read exactly
 pub stamped_entry_law : Law at_end stamped_entry_text stamped_entry_fits stamped_entry
 unfolding stamped_entry
 stamped_entry_law =
@@ -71,9 +72,11 @@ item_law = record {
         ap (λ o. by_word o (made items.Entry plain_entry) (made items.Datum datum (datum_text d ++ y))) (other_missed 64 [] (datum_text d ++ y) (datum_other 64 refl refl refl d y keeps ended)).1
         ∙ ap (λ o. after o (λ d rest. Some (items.Datum d, rest))) (datum_law.full d y keeps ended)
 
+-- what is read exactly before a calm text is so before an end
 narrow : {A : Type 0} {text : A → List ℕ} {fits : A → Bool} {r : List ℕ → Reading A} → Law calm text fits r → Law at_end text fits r
 narrow {A} {text} {fits} {r} law = as_law at_end text fits end_is_calm (λ a. refl) (λ a. refl) law
 
+-- counts are read exactly
 count_law : Law calm (λ n. 32 ∷ decimal n) (λ n. nat_le n 18446744073709551615) (number_in 18446744073709551615)
 count_law = number_in_law 18446744073709551615 (omega arith) (omega arith)
 
@@ -81,9 +84,11 @@ count_law = number_in_law 18446744073709551615 (omega arith) (omega arith)
 pub entries_law : Law at_end (λ l. 32 ∷ counted_text entry_text l) (all_fit entry_fits) (counted_in plain_entry)
 entries_law = counted_law entry_text entry_fits plain_entry (narrow entry_law) calm end_is_calm count_law
 
+-- lists of entries with deadlines are read exactly
 pub stamped_entries_law : Law at_end (λ l. 32 ∷ counted_text stamped_entry_text l) (all_fit stamped_entry_fits) (counted_in stamped_entry)
 stamped_entries_law = counted_law stamped_entry_text stamped_entry_fits stamped_entry stamped_entry_law calm end_is_calm count_law
 
+-- so are lists of items
 pub items_law : Law at_end (λ l. 32 ∷ counted_text item_text l) (all_fit item_fits) (counted_in item)
 items_law = counted_law item_text item_fits item (narrow item_law) calm end_is_calm count_law
 
@@ -92,6 +97,7 @@ abbrev pub row_ends : List ℕ → Bool
 row_ends [] = true
 row_ends (b ∷ s) = b == 32 || b == 59
 
+-- the end of a row is a blank or a semicolon
 row_end_by : (P : ℕ → Type 0) → P 32 → P 59 → (b : ℕ) → (b == 32 || b == 59) ≡ true → P b
 row_end_by P blank semicolon b e = go (b == 32) refl (b == 59) refl
   where
@@ -100,31 +106,39 @@ row_end_by P blank semicolon b e = go (b == 32) refl (b == 59) refl
     go false f true g = subst P (sym (eqb-true b 59 g)) semicolon
     go false f false g = absurd (true≢false (sym e ∙ ap (λ t. t || (b == 59)) f ∙ g))
 
+-- either ends a number
 row_end_is_calm : (y : List ℕ) → row_ends y ≡ true → calm y ≡ true
 row_end_is_calm [] e = refl
 row_end_is_calm (b ∷ y) e = row_end_by (λ c. calm (c ∷ y) ≡ true) refl refl b e
 
+-- neither is a comma
 row_end_no_comma : (y : List ℕ) → row_ends y ≡ true → other_byte 44 y ≡ true
 row_end_no_comma [] e = refl
 row_end_no_comma (b ∷ y) e = row_end_by (λ c. other_byte 44 (c ∷ y) ≡ true) refl refl b e
 
+-- neither begins a number
 row_end_no_digit : (y : List ℕ) → row_ends y ≡ true → begins_number y ≡ false
 row_end_no_digit [] e = refl
 row_end_no_digit (b ∷ y) e = row_end_by (λ c. begins_number (c ∷ y) ≡ false) refl refl b e
 
+-- the end of a text ends a row
 end_is_row_end : (y : List ℕ) → at_end y ≡ true → row_ends y ≡ true
 end_is_row_end [] e = refl
 end_is_row_end (b ∷ y) e = ap (λ c. c == 32 || c == 59) (eqb-true b 32 e)
 
+-- nodes are read exactly
 node_law : Law calm decimal is_u8 (number 255)
 node_law = number_law 255 (omega arith) (omega arith)
 
+-- a number that is at most another tests so
 le_to : (m n : ℕ) → m ≤ n → nat_le m n ≡ true
 le_to m n e = grind (arith, nat_tests)
 
+-- and one that tests so is
 le_from : (m n : ℕ) → nat_le m n ≡ true → m ≤ n
 le_from m n e = grind (arith, nat_tests)
 
+-- a comma ends a number
 comma_is_calm : (s : List ℕ) → calm (44 ∷ s) ≡ true
 comma_is_calm s = refl
 
@@ -168,6 +182,7 @@ owners_law = record { sound = λ s p e. from s p (begins_number s) e; full = who
         ∙ ap (λ r. after r next) (node_law.full n (rest ++ y) k.0 (calm_list list y ended))
         ∙ more_full 44 decimal is_u8 among (number 255) calm node_law comma_is_calm list (n ∷ []) 3 y (omega arith) k.1 g.0 (row_end_is_calm y ended) (row_end_no_comma y ended)
 
+-- a semicolon ends a row
 semicolon_ends : (s : List ℕ) → row_ends (59 ∷ s) ≡ true
 semicolon_ends s = refl
 
@@ -255,12 +270,14 @@ record Whole (hash : Hash) : Type 0 where
   pub some : nat_lt 0 (length hash) ≡ true
   pub few : has_few hash ≡ true
 
+-- a hash that fits has segments, and few owners of each
 whole_hash : (hash : Hash) → hash_fits hash ≡ true → Whole hash
 whole_hash hash e =
     let h = both_true (nat_lt 0 (length hash)) (nat_le (length hash) 256 && list_all owners_fit hash) e in
     let g = both_true (nat_le (length hash) 256) (list_all owners_fit hash) h.1 in
     record { some = h.0; few = fits_few hash g.1 }
 
+-- in a rebalance both hashes are whole and of one length
 in_rebalance : (current pending : Hash) → hash_fits current ≡ true → (hash_fits pending && (length pending == length current)) ≡ true
     → ((nat_lt 0 (length current) && has_few current) && ((length pending == length current) && has_few pending)) ≡ true
 in_rebalance current pending e f =
@@ -287,6 +304,7 @@ kept_again ReadOld current pending e = refl
 kept_again ReadAll current pending e = refl
 kept_again ReadNew current pending e = refl
 
+-- a pending hash is read as it is written
 some_full : (current pending : Hash) (y : List ℕ) → (hash_fits pending && (length pending == length current)) ≡ true → at_end y ≡ true → made Some hash_in ((32 ∷ hash_text pending) ++ y) ≡ Some (Some pending, y)
 some_full current pending y e ended =
     let h = both_true (hash_fits pending) (length pending == length current) e in
@@ -301,6 +319,7 @@ pending_full ReadOld current pending y e ended = some_full current pending y e e
 pending_full ReadAll current pending y e ended = some_full current pending y e ended
 pending_full ReadNew current pending y e ended = some_full current pending y e ended
 
+-- and what is read as one is its text
 some_sound : (current : Hash) (s : List ℕ) (p : Option Hash × List ℕ) → made Some hash_in s ≡ Some p → makes_topology ReadOld current p.0 ≡ true
     → (s ≡ (32 ∷ hash_text (unwrap_or p.0 [])) ++ p.1) × ((hash_fits (unwrap_or p.0 []) && (length (unwrap_or p.0 []) == length current)) ≡ true)
 some_sound current s p e m =
@@ -334,6 +353,7 @@ made_topology id phase current pending s p e = go (makes_topology phase current 
     go true f g = (f, same_Some _ p g)
     go false f g = absurd (none-some p g)
 
+-- numbers of topologies are read exactly
 id_law : Law calm (λ n. 32 ∷ decimal n) is_u32 (number_in 4294967295)
 id_law = number_in_law 4294967295 (omega arith) (omega arith)
 

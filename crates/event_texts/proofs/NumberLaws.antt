@@ -19,10 +19,12 @@ use Rattle.event_texts.specs.Reading.{after, begins_number, by_word, datum, foun
 use Rattle.event_texts.specs.Words.{until_text}
 use Rattle.event_texts.proofs.ReadLaws.{Law, Told, at_end, behind_law, choice_sound, found_sound, just_behind, made_behind, other_byte, other_missed}
 
+-- a test whose negation passes fails
 not_true : (b : Bool) → not b ≡ true → b ≡ false
 not_true false e = refl
 not_true true e = absurd (true≢false (sym e))
 
+-- no further digit is read of a calm text
 digits_stay : (limit n : ℕ) (y : List ℕ) → calm y ≡ true → digits_at limit n y ≡ (n, y)
 digits_stay limit n [] e = refl
 digits_stay limit n (b ∷ y) e = ap (λ t. cond (t && nat_le (n * 10 + (b - 48)) limit) (digits_at limit (n * 10 + (b - 48)) y) (n, b ∷ y)) (not_true (is_digit b) e)
@@ -31,9 +33,11 @@ digits_stay limit n (b ∷ y) e = ap (λ t. cond (t && nat_le (n * 10 + (b - 48)
 abbrev ReadsOn : ℕ → ℕ → List ℕ → Type 0
 ReadsOn limit n ds = 0 < n → n ≤ limit → (y : List ℕ) → positive_at limit (ds ++ y) ≡ Ok (digits_at limit n y)
 
+-- a number below ten that isn't 0 is one digit from 1 to 9
 one_digit : (n : ℕ) → 0 < n → n < 10 → (is_digit (48 + n) && nat_lt 48 (48 + n)) ≡ true
 one_digit n low high = grind (arith, nat_tests)
 
+-- a further digit is one, and the number keeps its limit
 more_digit : (n limit : ℕ) → n ≤ limit → (is_digit (48 + n % 10) && nat_le (n / 10 * 10 + (48 + n % 10 - 48)) limit) ≡ true
 more_digit n limit high =
     let small : 48 + n % 10 ≤ 57 = omega arith in
@@ -44,6 +48,7 @@ more_digit n limit high =
     all_three : (d n limit : ℕ) → 48 ≤ d → d ≤ 57 → n ≤ limit → ((nat_le 48 d && nat_le d 57) && nat_le n limit) ≡ true
     all_three d n limit a b c = grind (arith, nat_tests)
 
+-- a number in its limit is read digit by digit
 positive_on : (limit n : ℕ) → n < 2 ^ 64 → ReadsOn limit n (decimal n)
 positive_on limit n small = decimal_by_steps (ReadsOn limit) one more n small
   where
@@ -60,6 +65,7 @@ positive_on limit n small = decimal_by_steps (ReadsOn limit) one more n small
         ∙ ap (λ t. Ok (cond t (digits_at limit (n / 10 * 10 + (48 + n % 10 - 48)) y) (n / 10, (48 + n % 10) ∷ y))) (more_digit n limit fits)
         ∙ ap (λ m. Ok (digits_at limit m y)) whole
 
+-- what begins with a digit from 1 to 9 is read as such a number
 number_other : (limit : ℕ) (s : List ℕ) → 48 < get_or s 0 0 → number_at limit s ≡ positive_at limit s
 number_other limit [] h = absurd (omega arith)
 number_other limit (b ∷ s) h = ap (λ t. cond t (Ok (0, s)) (positive_at limit (b ∷ s))) (ne_eqb b 48 (λ e. omega arith))
@@ -74,6 +80,7 @@ number_full limit (suc n) y small high e =
     ∙ positive_on limit (suc n) (omega arith) (omega arith) high y
     ∙ ap (λ p. Ok p) (digits_stay limit (suc n) y e)
 
+-- a number that tests as at most another is
 le_from : (m n : ℕ) → nat_le m n ≡ true → m ≤ n
 le_from m n e = grind (arith, nat_tests)
 
@@ -84,6 +91,7 @@ number_law limit room small = record {
   full = λ n y keeps ended. ap found (number_full limit n y small (le_from n limit keeps) ended);
 }
 
+-- numbers in a limit are read exactly behind a blank
 pub number_in_law : (limit : ℕ) → 9 ≤ limit → limit < 2 ^ 64 → Law calm (λ n. 32 ∷ decimal n) (λ n. nat_le n limit) (number_in limit)
 number_in_law limit room small = behind_law (32 ∷ []) (number_law limit room small)
 
@@ -118,6 +126,7 @@ pub end_is_other : (a : ℕ) → (32 == a) ≡ false → (y : List ℕ) → at_e
 end_is_other a apart [] e = refl
 end_is_other a apart (b ∷ y) e = ap (λ c. not (c == a)) (eqb-true b 32 e) ∙ ap not apart
 
+-- a key is read up to its end
 key_front : (k : List ℕ) (room : ℕ) (y : List ℕ) → nat_le (length k) room ≡ true → list_all is_key_byte k ≡ true → at_end y ≡ true → key_bytes_at room (k ++ y) ≡ (k, y)
 key_front [] room [] short valid ended = refl
 key_front [] room (b ∷ y) short valid ended =
@@ -158,6 +167,7 @@ datum_law = record {
   full = λ d y keeps ended. ap found (datum_full d y keeps ended);
 }
 
+-- what begins with a digit is read as a number without a sign
 int_other : (s : List ℕ) → begins_number s ≡ true → int_at s ≡ with_sign pos (number_at (2 ^ 63 - 1) s)
 int_other [] e = absurd (true≢false (sym e))
 int_other (b ∷ s) e = go (b == 45) refl
@@ -167,9 +177,11 @@ int_other (b ∷ s) e = go (b == 45) refl
     go false f = ap (λ t. cond t (with_sign below_zero (positive_at (2 ^ 63) s)) (with_sign pos (number_at (2 ^ 63 - 1) (b ∷ s)))) f
     go true f = absurd (true≢false (sym e ∙ ap is_digit (eqb-true b 45 f)))
 
+-- a number that tests as less is less
 lt_from : (m n : ℕ) → nat_lt m n ≡ true → m < n
 lt_from m n e = grind (arith, nat_tests)
 
+-- a value in its range is read as it is written
 int_full : (z : ℤ) (y : List ℕ) → int_fits z ≡ true → calm y ≡ true → int_at (signed_decimal z ++ y) ≡ Ok (z, y)
 int_full (pos n) y keeps ended =
     let small = lt_from n (2 ^ 63) keeps in
@@ -185,6 +197,7 @@ int_full (negsuc n) y keeps ended =
 pub int_law : Law calm signed_decimal int_fits (λ s. found (int_at s))
 int_law = record { sound = found_sound signed_decimal int_fits int_at int_reads; full = λ z y keeps ended. ap found (int_full z y keeps ended) }
 
+-- a plain word begins with no quote, sign or digit
 plain_other : (a : ℕ) → (a == 34 || (a == 45 || is_digit a)) ≡ false → (s : List ℕ) → begins_plain s ≡ true → other_byte a s ≡ true
 plain_other a odd [] e = refl
 plain_other a odd (b ∷ s) e = go (b == a) refl

@@ -84,6 +84,7 @@ behind_sound {A} {r} word text fits law = λ s p e. go s p (literal_at word s) r
         (literal_found word s rest f ∙ ap (λ z. word ++ z) l.0 ∙ sym (append_assoc word (text p.0) p.1), l.1)
     go s p (Err n) f e = absurd (none-some p e)
 
+-- what is read exactly is so behind a word
 pub behind_law : {A : Type 0} {ends : List ℕ → Bool} {text : A → List ℕ} {fits : A → Bool} {r : List ℕ → Reading A} (word : List ℕ)
     → Law ends text fits r → Law ends (λ x. word ++ text x) fits (behind word r)
 behind_law {A} {ends} {text} {fits} {r} word law = record {
@@ -125,9 +126,11 @@ made_behind {A} {B} {ends} {text} {fits} {r} word c made_text made_fits same_tex
     subst (Told made_text made_fits (word ++ s)) (same_Some (c f.0.0, f.0.1) p f.2)
     (ap (λ z. word ++ z) l.0 ∙ sym (append_assoc word (text f.0.0) f.0.1) ∙ ap (λ t. t ++ f.0.1) (sym (same_text f.0.0)), same_fits f.0.0 ∙ l.1)
 
+-- a word that stands for one thing is read soundly
 pub just_behind : {A : Type 0} (word : List ℕ) (x : A) (text : A → List ℕ) (fits : A → Bool) → text x ≡ word → fits x ≡ true → SoundBehind word text fits (just x)
 just_behind word x text fits same keeps = λ s p e. subst (Told text fits (word ++ s)) (same_Some (x, s) p e) (ap (λ t. t ++ s) (sym same), keeps)
 
+-- so is a choice by a word between two that are
 pub choice_sound : {A : Type 0} {there other : List ℕ → Reading A} (word : List ℕ) (text : A → List ℕ) (fits : A → Bool)
     → SoundBehind word text fits there → Sound text fits other → Sound text fits (choice word there other)
 choice_sound {A} {there} {other} word text fits one two = λ s p e. go s p (literal_at word s) refl e
@@ -136,6 +139,7 @@ choice_sound {A} {there} {other} word text fits one two = λ s p e. go s p (lite
     go s p (Ok rest) f e = subst (λ z. Told text fits z p) (sym (literal_found word s rest f)) (one rest p e)
     go s p (Err n) f e = two s p e
 
+-- so is what reads nothing
 pub nothing_sound : {A : Type 0} (text : A → List ℕ) (fits : A → Bool) → Sound text fits nothing
 nothing_sound text fits s p e = absurd (none-some p e)
 
@@ -225,6 +229,7 @@ abbrev pub other_byte : ℕ → List ℕ → Bool
 other_byte a [] = true
 other_byte a (b ∷ s) = not (b == a)
 
+-- a word isn't read where another byte stands
 pub other_missed : (a : ℕ) (w s : List ℕ) → other_byte a s ≡ true → (n : ℕ) × (literal_at (a ∷ w) s ≡ Err n)
 other_missed a w [] e = (0, refl)
 other_missed a w (b ∷ s) e = go (b == a) e

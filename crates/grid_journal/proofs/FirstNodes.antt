@@ -9,6 +9,7 @@ use Rattle.grid_base.specs.Nodes.{Nodes}
 use Rattle.topology_phase.specs.Owners.{members}
 use Rattle.topology_phase.proofs.OwnerLists.{filter_range_more}
 
+-- a number below the next bound is the last one or below this bound
 below_more : (q n : ℕ) → ((q == n) || nat_lt q n) ≡ nat_lt q (n + 1)
 below_more q n = grind (arith, nat_tests)
 
@@ -19,6 +20,7 @@ more_nodes nodes n so_far q =
     ∙ (λ i. unsigned_tied q n i || so_far q i)
     ∙ below_more q n
 
+-- a filter that a whole row passes leaves the row
 taken_row : (p : ℕ → Bool) (k : ℕ) → ((q : ℕ) → q < k → p q ≡ true) → filter p (range_with_len 0 k) ≡ range_with_len 0 k
 taken_row p zero all = refl
 taken_row p (suc k) all =
@@ -34,6 +36,7 @@ taken_row p (suc k) all =
     every [] = refl
     every (x ∷ xs) = ap (λ ys. x ∷ ys) (every xs)
 
+-- one that its rear fails leaves the filtered front
 left_row : (p : ℕ → Bool) (n d : ℕ) → ((q : ℕ) → n ≤ q → p q ≡ false) → filter p (range_with_len 0 (n + d)) ≡ filter p (range_with_len 0 n)
 left_row p n zero none =
     let same : n + 0 ≡ n = omega arith in
@@ -45,9 +48,11 @@ left_row p n (suc d) none =
     ∙ (λ i. left_row p n d none i ++ cond (none (n + d) (omega arith) i) ((n + d) ∷ []) [])
     ∙ append-nil (filter p (range_with_len 0 n))
 
+-- a number that is less tests as less
 below : (q n : ℕ) → q < n → nat_lt q n ≡ true
 below q n lt = grind (arith, nat_tests)
 
+-- one that isn't doesn't
 above : (q n : ℕ) → n ≤ q → nat_lt q n ≡ false
 above q n le = grind (arith, nat_tests)
 

@@ -70,6 +70,7 @@ lines_on config events i event m old before after at stands lines one =
     ∙ ap (λ text. old ++ text) (sym (line_more config (reverse (take i events)) event))
     ∙ ap (λ past. old ++ least_lines config past) (sym (reversed_more events i event at))
 
+-- the settings stay with the members
 pub settings_of : (config : Config) (past : List Event) (m : Membership) → m ≡ membership_of config past → m.config ≡ config
 unfolding membership_of
 settings_of config past m stands = ap (λ t. t.config) stands

@@ -23,10 +23,12 @@ at_insert table k v q =
     map_of.get-insert nat_cmp_total table k v q
     ∙ ap (λ b. cond b (Some v) (map_of.get table q)) (unsigned_tied q k ∙ nat_eq_equiv.symm q k)
 
+-- a node that joined lives
 joined_live : (b : Bool) (found : Option Bool) (first live : Bool) → unwrap_or found first ≡ live → unwrap_or (cond b (Some true) found) first ≡ (b || live)
 joined_live true found first live h = refl
 joined_live false found first live h = h
 
+-- and one that departed doesn't
 departed_live : (b : Bool) (found : Option Bool) (first live : Bool) → unwrap_or found first ≡ live → unwrap_or (cond b (Some false) found) first ≡ (not b && live)
 departed_live true found first live h = refl
 departed_live false found first live h = h
@@ -93,6 +95,7 @@ losses_stand config past node segment = λ i.
     list_any (live_stands config past i) (holders (topology_stands config past i) segment)
     && not (list_any (λ other. live_stands config past i other && not (other == node)) (holders (topology_stands config past i) segment))
 
+-- what a departure loses is what the past says
 lost_of : (config : Config) (past : List Event) (node : ℕ) (segment : Option ℕ) → loses_of (membership_of config past) node segment ≡ maps.loses_key config past node segment
 lost_of config past node None = refl
 lost_of config past node (Some segment) = losses_stand config past node segment
@@ -126,12 +129,14 @@ one_more config past (Take e) = refl
 one_more config past (Done unit) = refl
 one_more config past (Answer e) = refl
 
+-- a unit's asker is that of its ask
 one_asker : (a b : Bool) (call : ℕ) (found : Option ℕ) → (if b then Some call else cond a (Some call) found) ≡ (if a || b then Some call else found)
 one_asker true true call found = refl
 one_asker true false call found = refl
 one_asker false true call found = refl
 one_asker false false call found = refl
 
+-- the asker of each unit of a round is the round's call
 asked_for : (call : ℕ) (asks : List Ask) (askers : Table ℕ) (unit : ℕ)
     → map_of.get (with_asks call asks askers) unit ≡ (if list_any (λ (ask : Ask). ask.unit == unit) asks then Some call else map_of.get askers unit)
 asked_for call [] askers unit = refl
@@ -163,20 +168,24 @@ askers_stand (Take e ∷ past) unit = askers_stand past unit
 askers_stand (Done other ∷ past) unit = askers_stand past unit
 askers_stand (Answer e ∷ past) unit = askers_stand past unit
 
+-- a choice of a number, or of what stands, by one test
 if_same : (b : Bool) (found : Option ℕ) (more : ℕ) → unwrap_or (cond b (Some more) found) 0 ≡ (if b then more else unwrap_or found 0)
 if_same true found more = refl
 if_same false found more = refl
 
+-- numbers that are equal where a test passes may stand for each other there
 where_same : (b : Bool) (m n other : ℕ) → (b ≡ true → m ≡ n) → (if b then m else other) ≡ (if b then n else other)
 where_same true m n other same = same refl
 where_same false m n other same = refl
 
+-- the items of the unit's call are those of the call
 same_call : (asker call : ℕ) (given : Table ℕ) (items : ℕ)
     → (if asker == call then unwrap_or (map_of.get given asker) 0 + items else unwrap_or (map_of.get given call) 0)
     ≡ (if asker == call then unwrap_or (map_of.get given call) 0 + items else unwrap_or (map_of.get given call) 0)
 same_call asker call given items =
     where_same (asker == call) _ _ _ (λ same. ap (λ number. unwrap_or (map_of.get given number) 0 + items) (eqb-true asker call same))
 
+-- with more items a call has been given as many more
 more_given : (call : ℕ) (asker : Option ℕ) (items : ℕ) (given : Table ℕ) (before : ℕ) → unwrap_or (map_of.get given call) 0 ≡ before
     → unwrap_or (map_of.get (with_items asker items given) call) 0 ≡ given_to call asker items before
 more_given call None items given before h = h

@@ -29,6 +29,7 @@ use Rattle.grid_journal.proofs.Standings.{gifts_stand, members_stand, one_more, 
 pub any_at : (test : ℕ → Bool) (xs : List ℕ) (i x : ℕ) → slice_get xs i ≡ Some x → test x ≡ true → list_any test xs ≡ true
 any_at test xs i x at passes = list_any_at test xs i x (slice_get_within xs i x at) (ap test (get_or_from_slice_get xs i x x at) ∙ passes)
 
+-- the first elements with one more
 taken_more : {A : Type 0} (xs : List A) (i : ℕ) (x : A) → slice_get xs i ≡ Some x → take (suc i) xs ≡ take i xs ++ x ∷ []
 taken_more [] i x at = absurd (cc)
 taken_more (y ∷ ys) zero x at = ap (λ found. unwrap_or found y ∷ []) at
@@ -54,10 +55,12 @@ settings_stand config past s stands = ap (λ t. t.membership.config) stands
 pub no_owner : (hash : List (List ℕ)) (segment : ℕ) → length hash ≤ segment → [] ≡ owners_at hash segment
 no_owner hash segment past = sym (get_or_past hash segment [] past)
 
+-- two empty lists make an empty one
 none_joined : (first second : List ℕ) → first ≡ [] → second ≡ [] → joined first second ≡ []
 unfolding joined
 none_joined first second none nothing = (λ i. joined (none i) (nothing i))
 
+-- where the first list is empty, and the second outside the settled phase, what is told of a phase is empty
 none_by : (phase : Phase) (first second : List ℕ) → first ≡ [] → (same_phase phase NoRebalance ≡ false → second ≡ [])
     → by_phase phase first first (joined first second) (joined first second) ≡ []
 none_by NoRebalance first second none later = none
@@ -90,6 +93,7 @@ told_json config past s stands =
     ap (λ t. told_data (calls_data (λ call. unwrap_or (finite.get t.given call) 0) (finite.entries t.outcomes)) (finite.len t.keys) (nodes_data (standing_members t.membership)) (string (standing_text (standing_topology t.membership)))) stands
     ∙ (λ i. told_data (calls_data (λ call. gifts_stand past call i) (finite.entries (outcomes_of past))) (finite.len (entries_of config past)) (nodes_data (members_stand config past i)) (string (standing_text (topology_stands config past i))))
 
+-- a list of data without fractions has none
 none_float : {A : Type 0} (f : A → Data) → ((x : A) → has_float (f x) ≡ false) → (xs : List A) → items_have_float (items_of (map f xs)) ≡ false
 none_float f none [] = refl
 none_float f none (x ∷ xs) = ap (λ b. b || items_have_float (items_of (map f xs))) (none x) ∙ none_float f none xs
@@ -107,6 +111,7 @@ pub placed : (old settings calls ends first second third fourth : List ℕ)
 placed old settings calls ends first second third fourth a b c d =
     d ∙ ap (λ text. text ++ ends) (c ∙ ap (λ text. text ++ calls) (b ∙ ap (λ text. text ++ 10 ∷ []) a)) ∙ simp append_assoc
 
+-- the parts of a brief, put one behind the other, are the brief
 pub placed_more : (old settings calls least ends first second third fourth fifth : List ℕ)
     → first ≡ old ++ settings → second ≡ first ++ 10 ∷ [] → third ≡ second ++ calls → fourth ≡ third ++ least → fifth ≡ fourth ++ ends → fifth ≡ old ++ (line settings ++ (calls ++ (least ++ ends)))
 placed_more old settings calls least ends first second third fourth fifth a b c d e =

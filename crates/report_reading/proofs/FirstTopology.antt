@@ -9,10 +9,12 @@ use Rattle.text_lines.proofs.Cutting.{lines_cut}
 use Rattle.report_reading.proofs.Heads.{first_one}
 use Rattle.report_reading.proofs.Settings.{settings_one}
 
+-- the lines behind the first
 abbrev tail_lines : List Line → List Line
 tail_lines [] = []
 tail_lines (l ∷ ls) = ls
 
+-- the bytes of the first line
 abbrev head_bytes : List Line → List ℕ
 head_bytes [] = []
 head_bytes (l ∷ ls) = l.bytes

@@ -41,14 +41,17 @@ pub record HasRoomFor (done events : List Event) : Type 0 where
   pub light : total_weight done + total_weight events ≤ MOST_WEIGHT
   pub fit : list_all event_fits events ≡ true
 
+-- two lists of events weigh what each weighs
 weight_of_both : (xs ys : List Event) → total_weight (xs ++ ys) ≡ total_weight xs + total_weight ys
 weight_of_both [] ys = omega arith
 weight_of_both (x ∷ xs) ys = let h = weight_of_both xs ys in omega arith
 
+-- where all of two lists fit, the first do
 first_fit : (xs ys : List Event) → list_all event_fits (xs ++ ys) ≡ true → list_all event_fits xs ≡ true
 first_fit [] ys h = refl
 first_fit (x ∷ xs) ys h = let p = and_parts (event_fits x) (list_all event_fits (xs ++ ys)) h in λ i. p.0 i && first_fit xs ys p.1 i
 
+-- and so do the second
 second_fit : (xs ys : List Event) → list_all event_fits (xs ++ ys) ≡ true → list_all event_fits ys ≡ true
 second_fit [] ys h = h
 second_fit (x ∷ xs) ys h = second_fit xs ys (and_parts (event_fits x) (list_all event_fits (xs ++ ys)) h).1

@@ -15,6 +15,7 @@ use Rattle.grid_event.proofs.PlacedNotes.{first_placed}
 abbrev pub event_line : ℕ → Event → List ℕ
 event_line place event = line (words (decimal (place + 1) ∷ event_text event ∷ []))
 
+-- the lines of events grow by the line of one more
 pub events_more : (place : ℕ) (events : List Event) (event : Event) → events_text place (events ++ event ∷ []) ≡ events_text place events ++ event_line (place + length events) event
 events_more place [] event = append-nil (event_line place event) ∙ ap (λ n. event_line n event) (omega arith)
 events_more place (first ∷ events) event =

@@ -36,6 +36,7 @@ rows_one byte other text one (x ∷ []) = one x
 rows_one byte other text one (x ∷ y ∷ xs) =
     let rest = rows_one byte other text one (y ∷ xs) in both (text x) (byte ∷ join_with_byte byte (map text (y ∷ xs))) (one x) (λ i. other i && rest i)
 
+-- the text of the first topology is one line
 pub first_one : (c : Config) → is_config c ≡ true → is_one_line (first_text c) ≡ true
 first_one c h = ap is_one_line (sym (first_hash_whole c)) ∙ rows_one 59 refl (first_row_text c) row (range_with_len 0 c.segments)
   where
@@ -60,6 +61,7 @@ one_lines = record { lines = line_one; config = settings_one; first = first_one;
 abbrev fresh : Config → History
 fresh config = record blank { config = Some config }
 
+-- a history without events keeps its limits
 fresh_keepable : (config : Config) → is_config config ≡ true → IsKeepable (fresh config)
 fresh_keepable config good = record { settings = good; few = omega arith; light = omega arith; fit = refl; placed = refl; numbered = refl }
 
@@ -67,6 +69,7 @@ fresh_keepable config good = record { settings = good; few = omega arith; light 
 fresh_front : (config : Config) → front_text (fresh config) ≡ line (config_text config) ++ line (first_text config)
 fresh_front config = append-nil (line (config_text config) ++ line (first_text config))
 
+-- the settings of a least cluster
 abbrev least_config : Config
 least_config = record { nodes = 1; segments = 1; owners = 1; partition = partitions.Plain; values = values.Int; chunk = 1 }
 
@@ -92,6 +95,7 @@ first_same t rest next more one other r = ap first_bytes (sym (lines_cut t rest 
     first_bytes [] = []
     first_bytes (l ∷ ls) = l.bytes
 
+-- nothing has no line feed
 no_feed : (next more : List ℕ) → [] ≡ next ++ 10 ∷ more → ⊥
 no_feed [] more e = absurd (cc)
 no_feed (b ∷ next) more e = absurd (cc)
@@ -111,9 +115,11 @@ data HeadOf (bytes : List ℕ) : Type 0 where
   Good : (config : Config) (rest : List ℕ) → is_config config ≡ true → bytes ≡ front_text (fresh config) ++ rest → report_of bytes ≡ read_lines (fresh config) 3 (lines_of rest) → HeadOf bytes
   Bad : (n : ℕ) → report_of bytes ≡ Err (Stop.Unread n) → IsFirstUnread bytes n → HeadOf bytes
 
+-- bytes whose first line has no settings begin no report
 bad_first : (bytes : List ℕ) → report_of bytes ≡ Err (Stop.Unread 1) → ((next more : List ℕ) → bytes ≡ next ++ 10 ∷ more → is_one_line next ≡ true → BeginsReport ([] ++ line next) → ⊥) → HeadOf bytes
 bad_first bytes is stops = Bad 1 is (record { front = []; rest = bytes; splits = refl; numbered = omega arith; begins = begins_none; stops = stops })
 
+-- nor do those whose second line isn't the first topology
 bad_second : (config : Config) (t rest bytes : List ℕ) → is_config config ≡ true → config_text config ≡ t → bytes ≡ t ++ 10 ∷ rest → is_one_line t ≡ true → report_of bytes ≡ Err (Stop.Unread 2) →
     ((next more : List ℕ) → rest ≡ next ++ 10 ∷ more → is_one_line next ≡ true → BeginsReport (([] ++ line t) ++ line next) → ⊥) → HeadOf bytes
 bad_second config t rest bytes good is b one stopped stops = Bad 2 stopped (record {
@@ -159,6 +165,7 @@ second_of config t rest bytes good is found b one reached = by_cut (cut_of rest)
     by_cut (Cut.Whole u more r other) =
         by_same u more r other (same_bytes u (first_text config)) refl (reached ∙ ap (read_second config) (ap lines_of r ∙ lines_cut u more other))
 
+-- each text has its head, or stops there
 head_of : (bytes : List ℕ) → HeadOf bytes
 head_of bytes = by_cut (cut_of bytes)
   where
@@ -178,6 +185,7 @@ head_of bytes = by_cut (cut_of bytes)
     by_cut (Cut.Last last) = bad_first bytes (ap read_head last) (λ next more e ends begins. absurd (not_whole bytes next more last e ends))
     by_cut (Cut.Whole t rest b one) = by_settings t rest b one (config_of t) refl (ap read_head (ap lines_of b ∙ lines_cut t rest one))
 
+-- the line behind the head is the third
 three : (config : Config) → is_config config ≡ true → 3 ≡ feeds (front_text (fresh config)) + 1
 three config good =
     let a = ap feeds (fresh_front config) in
@@ -185,6 +193,7 @@ three config good =
     let c = line_feeds (config_text config) (settings_one config good) in
     let d = line_feeds (first_text config) (first_one config good) in omega arith
 
+-- what is read as a history is its report
 pub all_sound : (bytes : List ℕ) (history : History) → report_of bytes ≡ Ok history → IsReport bytes history
 all_sound bytes history is = by_head (head_of bytes)
   where
@@ -193,9 +202,11 @@ all_sound bytes history is = by_head (head_of bytes)
     by_head (Good config rest good b reached) =
         subst (λ z. IsReport z history) (sym b) (read_is one_lines (lines_of rest) (fresh config) 3 rest history refl (fresh_keepable config good) (sym reached ∙ is))
 
+-- each report is read as its history
 pub all_full : (bytes : List ℕ) (history : History) → IsReport bytes history → report_of bytes ≡ Ok history
 all_full = reads one_lines
 
+-- where nothing is read no report goes on
 pub all_unread : (bytes : List ℕ) (number : ℕ) → report_of bytes ≡ Err (Stop.Unread number) → IsFirstUnread bytes number
 all_unread bytes number is = by_head (head_of bytes)
   where
@@ -209,6 +220,7 @@ all_unread bytes number is = by_head (head_of bytes)
     by_head (Good config rest good b reached) =
         subst (λ z. IsFirstUnread z number) (sym b) (stops_at one_lines (lines_of rest) (fresh config) 3 rest number refl (fresh_keepable config good) (three config good) (sym reached ∙ is))
 
+-- and where a limit is passed the event there passes it
 pub all_past_limit : (bytes : List ℕ) (number : ℕ) → report_of bytes ≡ Err (Stop.Full number) → IsFirstFull bytes number
 all_past_limit bytes number is = by_head (head_of bytes)
   where

@@ -17,12 +17,15 @@ use Rattle.report_reading.specs.WholeReports.{IsKeepable, front_text}
 use Rattle.report_reading.proofs.Growing.{run_event, run_note}
 use Rattle.grid_event.proofs.PlacedNotes.{placed_event, placed_note}
 
+-- a list with one more is longer by one
 one_more : {A : Type 0} (xs : List A) (x : A) → length (xs ++ x ∷ []) ≡ length xs + 1
 one_more xs x = length-append xs (x ∷ [])
 
+-- all of a list pass with one more that does
 all_more : {A : Type 0} (test : A → Bool) (xs : List A) (x : A) → list_all test xs ≡ true → test x ≡ true → list_all test (xs ++ x ∷ []) ≡ true
 all_more test xs x all one = list_all-append test xs (x ∷ []) ∙ (λ i. all i && (one i && true))
 
+-- a history in its limits stays so with an event that fits and passes none
 pub keep_event : (h : History) (event : Event) → IsKeepable h → event_fits event ≡ true → passes_limit h event ≡ false → IsKeepable (with_event h event)
 keep_event h event k fits room =
     let free = room-passes_limit h event (sym room) in
@@ -35,6 +38,7 @@ keep_event h event k fits room =
       numbered = k.numbered;
     }
 
+-- and with an idle note
 pub keep_note : (h : History) (number : ℕ) → IsKeepable h → is_u32 number ≡ true → IsKeepable (with_idle h number)
 keep_note h number k fits = record {
   settings = k.settings;
@@ -45,9 +49,11 @@ keep_note h number k fits = record {
   numbered = all_more (λ (note : Idle). is_u32 note.line) h.idle (record { place = length h.events; line = number }) k.numbered fits;
 }
 
+-- none and a number are the number
 pub zero_sum : (n : ℕ) → 0 + n ≡ n
 zero_sum n = omega arith
 
+-- the front grows by the line of an event
 pub front_event : (h : History) (event : Event) → IsKeepable h → front_text (with_event h event) ≡ front_text h ++ line (line_text (length h.events) (Told event))
 front_event h event k =
     ap (λ z. head_text h.config ++ z)
@@ -55,10 +61,12 @@ front_event h event k =
     ∙ ap (λ n. run_text 0 h.events h.idle ++ line (line_text n (Told event))) (zero_sum (length h.events)))
     ∙ sym (append_assoc (head_text h.config) (run_text 0 h.events h.idle) (line (line_text (length h.events) (Told event))))
 
+-- and by the line of a note
 pub front_note : (h : History) (number : ℕ) → IsKeepable h → front_text (with_idle h number) ≡ front_text h ++ line (line_text (length h.events) (Note number))
 front_note h number k =
     ap (λ z. head_text h.config ++ z) (run_note 0 h.events h.idle (record { place = length h.events; line = number }) (ap (λ n. are_placed 0 n h.idle) (zero_sum (length h.events)) ∙ k.placed) (omega arith))
     ∙ sym (append_assoc (head_text h.config) (run_text 0 h.events h.idle) (line (line_text (length h.events) (Note number))))
 
+-- a report is its front and the last line
 pub whole_text : (h : History) → report_text h ≡ front_text h ++ line (line_text (length h.events) End)
 whole_text h = sym (append_assoc (head_text h.config) (run_text 0 h.events h.idle) (line (line_text (length h.events) End)))

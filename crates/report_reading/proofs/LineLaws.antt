@@ -19,6 +19,7 @@ use Rattle.pipeline_parse.proofs.Full.{calm}
 use Rattle.event_texts.proofs.ReadLaws.{Told as Stands}
 use Rattle.report_reading.specs.ReportLines.{ReportLine, Note, Told, End, end_in, event_in, line_fits, line_of, line_text, this_number, told_by}
 
+-- a reading of the whole leaves nothing
 whole_is : {A : Type 0} (r : Reading A) (a : A) → whole_of r ≡ Some a → r ≡ Some (a, [])
 whole_is None a e = absurd (none-some a e)
 whole_is (Some (x, [])) a e = ap (λ z. Some (z, [])) (same_Some x a e)
@@ -35,6 +36,7 @@ this_sound n s p e =
     by_test m rest true t e l = (l ∙ ap (λ k. decimal k ++ rest) (eqb-true m n t) ∙ ap (λ (q : ℕ × List ℕ). decimal n ++ q.1) (same_Some (n, rest) p e), refl)
     by_test m rest false t e l = absurd (none-some p e)
 
+-- the number of a line is read as it is written
 this_full : (n : ℕ) (y : List ℕ) → n ≤ 4294967295 → calm y ≡ true → this_number n (decimal n ++ y) ≡ Some (n, y)
 this_full n y small ended =
     ap (λ r. after r (λ found rest. if found == n then Some (n, rest) else None)) ((number_law 4294967295 (omega arith) (omega arith)).full n y (le-leb n 4294967295 small) ended)
@@ -48,6 +50,7 @@ end_sound count s p e =
     subst (Stands (line_text count) line_fits (codes "end" ++ s)) (same_Some (End, f.0.1) p f.2)
     (ap (λ z. codes "end" ++ z) l.0, refl)
 
+-- what is read as an event's line is that line
 told_sound : (event : Option Event) (s : List ℕ) (count : ℕ) (p : ReportLine × List ℕ) → event_of s ≡ event → told_by event ≡ Some p → Stands (line_text count) line_fits (decimal (count + 1) ++ (32 ∷ s)) p
 told_sound None s count p is e = absurd (none-some p e)
 told_sound (Some event) s count p is e =
@@ -55,6 +58,7 @@ told_sound (Some event) s count p is e =
     subst (Stands (line_text count) line_fits (decimal (count + 1) ++ (32 ∷ s))) (same_Some (Told event, []) p e)
     (ap (λ z. decimal (count + 1) ++ (32 ∷ z)) (sym l.0) ∙ sym (append-nil (decimal (count + 1) ++ (32 ∷ event_text event))), l.1)
 
+-- and so it is with the number in front
 event_sound : (count : ℕ) → Sound (line_text count) line_fits (event_in count)
 event_sound count s p e =
     let f = after_found (this_number (count + 1) s) (λ n rest. behind (codes " ") (λ text. told_by (event_of text)) rest) p e in

@@ -65,6 +65,7 @@ digits_one : (ds : List ℕ) → is_one_line (map (λ d. 48 + d) ds) ≡ true
 digits_one [] = refl
 digits_one (d ∷ ds) = let h : not ((48 + d) == 10) ≡ true = grind (arith, nat_tests) in λ i. h i && digits_one ds i
 
+-- a number has no line feed
 pub one_decimal : (n : ℕ) → n < 2 ^ 64 → is_one_line (decimal n) ≡ true
 one_decimal zero small = ap is_one_line (decimal_digit 0 (omega arith))
 one_decimal (suc n) small = ap is_one_line (decimal-digits_of (suc n) (omega arith) small) ∙ digits_one (digits_of 10 (suc n))
@@ -73,12 +74,15 @@ one_decimal (suc n) small = ap is_one_line (decimal-digits_of (suc n) (omega ari
 key_byte : (b : ℕ) → is_key_byte b ≡ true → not (b == 10) ≡ true
 key_byte b h = let low = leb-true 33 b (and_parts (nat_le 33 b) _ h).0 in grind (arith, nat_tests)
 
+-- a byte of a text is none
 text_byte : (b : ℕ) → is_text_byte b ≡ true → not (b == 10) ≡ true
 text_byte b h = let low = leb-true 32 b (and_parts (nat_le 32 b) _ h).0 in grind (arith, nat_tests)
 
+-- nor has a key one
 pub one_key : (k : List ℕ) → is_key k ≡ true → is_one_line k ≡ true
 one_key k h = above is_key_byte key_byte k (and_parts (nat_le (length k) 64) _ (and_parts (nat_le 1 (length k)) _ h).1).1
 
+-- nor a value
 pub one_datum : (d : Datum) → datum_fits d ≡ true → is_one_line (datum_text d) ≡ true
 one_datum (Int (pos n)) h = one_decimal n (let a = ltb-true n (2 ^ 63) h in omega arith)
 one_datum (Int (negsuc n)) h = one_decimal (suc n) (let a = ltb-true n (2 ^ 63) h in omega arith)
@@ -90,12 +94,15 @@ one_datum (Flag false) h = refl
 of_u8 : (n : ℕ) → is_u8 n ≡ true → is_one_line (decimal n) ≡ true
 of_u8 n h = one_decimal n (let a = leb-true n 255 h in omega arith)
 
+-- nor a number of 16 bits
 of_u16 : (n : ℕ) → is_u16 n ≡ true → is_one_line (decimal n) ≡ true
 of_u16 n h = one_decimal n (let a = leb-true n 65535 h in omega arith)
 
+-- nor one of 32 bits
 of_u32 : (n : ℕ) → is_u32 n ≡ true → is_one_line (decimal n) ≡ true
 of_u32 n h = one_decimal n (let a = leb-true n 4294967295 h in omega arith)
 
+-- nor one of 64 bits
 of_u64 : (n : ℕ) → is_u64 n ≡ true → is_one_line (decimal n) ≡ true
 of_u64 n h = one_decimal n (let a = leb-true n 18446744073709551615 h in omega arith)
 
@@ -107,6 +114,7 @@ each_one byte other text test one (x ∷ xs) h =
     let p = and_parts (test x) (list_all test xs) h in
     let rest = both (text x) (each_behind byte (map text xs)) (one x p.0) (each_one byte other text test one xs p.1) in λ i. other i && rest i
 
+-- nor a counted list of what has none
 counted_one : {T : Type 0} (text : T → List ℕ) (test : T → Bool) → ((t : T) → test t ≡ true → is_one_line (text t) ≡ true) → (xs : List T) → all_fit test xs ≡ true → is_one_line (counted_text text xs) ≡ true
 counted_one text test one xs h =
     let p = and_parts (is_u64 (length xs)) (list_all test xs) h in
@@ -127,15 +135,18 @@ until_one : (o : Option ℕ) → until_fits o ≡ true → is_one_line (until_te
 until_one None h = refl
 until_one (Some n) h = of_u32 n h
 
+-- nor an entry
 entry_one : (e : Entry) → entry_fits e ≡ true → is_one_line (entry_text e) ≡ true
 entry_one e h = let p = and_parts (is_key e.key) (datum_fits e.value) h in both e.key (32 ∷ datum_text e.value) (one_key e.key p.0) (one_datum e.value p.1)
 
+-- nor an entry with its deadline
 stamped_one : (e : StampedEntry) → stamped_entry_fits e ≡ true → is_one_line (stamped_entry_text e) ≡ true
 stamped_one e h =
     let p = and_parts (is_key e.key) (datum_fits e.stamped.value && until_fits e.stamped.until) h in
     let q = and_parts (datum_fits e.stamped.value) (until_fits e.stamped.until) p.1 in
     both e.key (32 ∷ (datum_text e.stamped.value ++ until_text e.stamped.until)) (one_key e.key p.0) (both (datum_text e.stamped.value) (until_text e.stamped.until) (one_datum e.stamped.value q.0) (until_one e.stamped.until q.1))
 
+-- nor an item
 item_one : (x : Item) → item_fits x ≡ true → is_one_line (item_text x) ≡ true
 item_one (items.Entry e) h = entry_one e h
 item_one (items.Datum d) h = one_datum d h
@@ -144,22 +155,26 @@ item_one (items.Datum d) h = one_datum d h
 owners_one : (owners : List ℕ) → owners_fit owners ≡ true → is_one_line (owners_text owners) ≡ true
 owners_one owners h = joined_one 44 refl decimal is_u8 of_u8 owners (and_parts (none_barred among [] owners) _ (and_parts (nat_le (length owners) 4) _ h).1).1
 
+-- nor a hash
 hash_one : (hash : Hash) → hash_fits hash ≡ true → is_one_line (hash_text hash) ≡ true
 unfolding hash_text
 hash_one hash h = joined_one 59 refl owners_text owners_fit owners_one hash (and_parts (nat_le (length hash) 256) _ (and_parts (nat_lt 0 (length hash)) _ h).1).1
 
+-- nor the name of a phase
 phase_one : (phase : Phase) → is_one_line (phase_text phase) ≡ true
 phase_one phases.NoRebalance = refl
 phase_one phases.ReadOld = refl
 phase_one phases.ReadAll = refl
 phase_one phases.ReadNew = refl
 
+-- nor a pending hash
 pending_one : (phase : Phase) (current pending : Hash) → pending_fits phase current pending ≡ true → is_one_line (pending_text phase pending) ≡ true
 pending_one phases.NoRebalance current pending h = refl
 pending_one phases.ReadOld current pending h = hash_one pending (and_parts (hash_fits pending) _ h).0
 pending_one phases.ReadAll current pending h = hash_one pending (and_parts (hash_fits pending) _ h).0
 pending_one phases.ReadNew current pending h = hash_one pending (and_parts (hash_fits pending) _ h).0
 
+-- nor a topology
 topology_one : (t : Topology) → topology_fits t ≡ true → is_one_line (topology_text t) ≡ true
 unfolding topology_text
 topology_one t h =
@@ -173,9 +188,11 @@ topology_one t h =
 abbrev OneExpr : Expr → Type 0
 OneExpr a = expr_fits a ≡ true → is_one_line (expr_text a) ≡ true
 
+-- nor a word between two texts that have none
 between_one : (a w b : List ℕ) → is_one_line a ≡ true → is_one_line w ≡ true → is_one_line b ≡ true → is_one_line (between a w b) ≡ true
 between_one a w b x y z = both a (w ++ (b ++ codes ")")) x (both w (b ++ codes ")") y (both b (codes ")") z refl))
 
+-- an expression has none where its parts have none
 expr_form : (x : Expr-F ((a : Expr) × OneExpr a)) → OneExpr (roll-Expr (map-Expr ((a : Expr) × OneExpr a) Expr (λ p. p.0) x))
 expr_form Expr-F.Key h = ap is_one_line (fold-roll-Expr (List ℕ) text_step Expr-F.Key)
 expr_form Expr-F.Value h = ap is_one_line (fold-roll-Expr (List ℕ) text_step Expr-F.Value)
@@ -211,30 +228,36 @@ expr_form (Expr-F.Starts a b) h =
     ap is_one_line (fold-roll-Expr (List ℕ) text_step (Expr-F.Starts a.0 b.0))
     ∙ both (expr_text a.0) (codes ", " ++ (expr_text b.0 ++ codes ")")) (a.1 p.0) (both (expr_text b.0) (codes ")") (b.1 p.1) refl)
 
+-- so no expression has one
 expr_one : (a : Expr) → OneExpr a
 expr_one = ind-Expr OneExpr (λ x y is. subst (λ z. OneExpr (roll-Expr z)) is (expr_form y))
 
+-- nor have further expressions
 further_one : (es : List Expr) → list_all expr_fits es ≡ true → is_one_line (further_text es) ≡ true
 further_one [] h = refl
 further_one (e ∷ es) h = let p = and_parts (expr_fits e) (list_all expr_fits es) h in both (expr_text e) (further_text es) (expr_one e p.0) (further_one es p.1)
 
+-- nor what a flatmap spreads
 spread_one : (s : Spread) → spread_fits s ≡ true → is_one_line (spread_text s) ≡ true
 spread_one (spreads.Each list) h =
     let p = and_parts (expr_fits list.first) (list_all expr_fits list.rest) h in both (expr_text list.first) (further_text list.rest) (expr_one list.first p.0) (further_one list.rest p.1)
 spread_one (spreads.Words e) h = both (expr_text e) (codes ")") (expr_one e h) refl
 
+-- nor an operation
 op_one : (o : Op) → op_fits o ≡ true → is_one_line (op_text o) ≡ true
 op_one (ops.Filter e) h = expr_one e h
 op_one (ops.Map e) h = expr_one e h
 op_one (ops.FlatMap s) h = spread_one s h
 op_one ops.Distinct h = refl
 
+-- nor several
 ops_one : (os : List Op) → list_all op_fits os ≡ true → is_one_line (ops_text os) ≡ true
 ops_one [] h = refl
 ops_one (o ∷ os) h =
     let p = and_parts (op_fits o) (list_all op_fits os) h in
     both (op_text o ++ codes " | ") (ops_text os) (both (op_text o) (codes " | ") (op_one o p.0) refl) (ops_one os p.1)
 
+-- nor an end
 end_one : (end : End) → is_one_line (end_text end) ≡ true
 end_one ends.Count = refl
 end_one ends.Sum = refl
@@ -243,6 +266,7 @@ end_one ends.Max = refl
 end_one ends.Collect = refl
 end_one ends.Each = refl
 
+-- nor a pipeline
 pipeline_one : (p : Pipeline) → pipeline_fits p ≡ true → is_one_line (text_of p) ≡ true
 pipeline_one p h = both (ops_text p.ops) (end_text p.end) (ops_one p.ops (and_parts (fits p) _ h).0) (end_one p.end)
 
@@ -251,6 +275,7 @@ best_one : (o : Option Datum) → best_fits o ≡ true → is_one_line (best_tex
 best_one None h = refl
 best_one (Some d) h = one_datum d h
 
+-- nor an answer
 answer_one : (a : Answer) → answer_fits a ≡ true → is_one_line (answer_text a) ≡ true
 unfolding answer_text
 answer_one (answers.Count n) h = of_u64 n h
@@ -258,6 +283,7 @@ answer_one (answers.Sum z) h = one_datum (Int z) h
 answer_one (answers.Best o) h = best_one o h
 answer_one (answers.List list) h = counted_one item_text item_fits item_one list h
 
+-- nor an outcome
 outcome_one : (o : Outcome) → outcome_fits o ≡ true → is_one_line (outcome_text o) ≡ true
 unfolding outcome_text
 outcome_one (outcomes.Value a) h = answer_one a h
@@ -271,20 +297,24 @@ last_one : (b : Bool) → is_one_line (last_text b) ≡ true
 last_one true = refl
 last_one false = refl
 
+-- nor the word of a beginning
 runs_one : (b : Bool) → is_one_line (runs_text b) ≡ true
 runs_one true = refl
 runs_one false = refl
 
+-- nor that of a guarantee
 guarantee_one : (g : Guarantee) → is_one_line (guarantee_text g) ≡ true
 guarantee_one guarantees.Exact = refl
 guarantee_one guarantees.AtLeast = refl
 guarantee_one guarantees.AtMost = refl
 
+-- nor an ask
 ask_one : (a : Ask) → ask_fits a ≡ true → is_one_line (ask_text a) ≡ true
 ask_one a h =
     let p = and_parts (is_u32 a.unit) _ h in let q = and_parts (is_u16 a.segment) (is_u8 a.node) p.1 in
     both (decimal a.unit) (58 ∷ (decimal a.segment ++ (64 ∷ decimal a.node))) (of_u32 a.unit p.0) (both (decimal a.segment) (64 ∷ decimal a.node) (of_u16 a.segment q.0) (of_u8 a.node q.1))
 
+-- no event's text has a line feed
 pub event_one : (e : Event) → event_fits e ≡ true → is_one_line (event_text e) ≡ true
 unfolding event_text event_fits write_text erase_text copy_text invoke_text request_text round_text batch_text take_text asks_text
 event_one (events.Write w) h =

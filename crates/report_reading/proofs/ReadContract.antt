@@ -50,6 +50,7 @@ pub only_unread : (bytes : List ℕ) (result : Result (Unit {0}) ReportFault) (a
     → IsFirstUnread bytes line → HasNoReport bytes → IsNeverFull bytes → IsFaultOnly (faults.Unread line) result
 only_unread bytes result after line is first none never = only_fault bytes result after (Stop.Unread line) is (unread_found bytes line first none never)
 
+-- where a limit is passed reading says so, unless memory runs out
 pub only_full : (bytes : List ℕ) (result : Result (Unit {0}) ReportFault) (after : History) (line : ℕ) → Reads result after (report_of bytes)
     → IsFirstFull bytes line → IsFaultOnly (faults.Full line) result
 only_full bytes result after line is first = only_fault bytes result after (Stop.Full line) is (full_found bytes line first)

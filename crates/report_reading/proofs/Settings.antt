@@ -29,6 +29,7 @@ use Rattle.report_reading.proofs.OneLine.{both, one_decimal}
 abbrev sizes_fit : Config → Bool
 sizes_fit c = is_u8 c.nodes && (is_u16 c.segments && (is_u8 c.owners && (true && (true && (is_u16 c.chunk && true)))))
 
+-- the partition is read exactly
 partition_law : Law at_end (λ p. codes " partition " ++ partition_text p) (λ (p : Partition). true) partition_in
 partition_law = record {
   sound = behind_sound (codes " partition ") partition_text (λ p. true)
@@ -41,6 +42,7 @@ partition_law = record {
     each partitions.Plain y keeps ended = refl
     each partitions.Grouped y keeps ended = refl
 
+-- so is the kind of values
 values_law : Law at_end (λ k. codes " values " ++ kind_text k) (λ (k : ValueKind). true) values_in
 values_law = record {
   sound = behind_sound (codes " values ") kind_text (λ k. true)
@@ -80,6 +82,7 @@ aim_calm aims.Least y ended = refl
 u8_behind : (word : List ℕ) → Law calm (λ n. word ++ (32 ∷ decimal n)) is_u8 (behind word (number_in 255))
 u8_behind word = behind_law word (number_in_law 255 (omega arith) (omega arith))
 
+-- so is a number behind its word
 u16_behind : (word : List ℕ) → Law calm (λ n. word ++ (32 ∷ decimal n)) is_u16 (behind word (number_in 65535))
 u16_behind word = behind_law word (number_in_law 65535 (omega arith) (omega arith))
 
@@ -89,6 +92,7 @@ row_text c =
     (codes "grid nodes" ++ (32 ∷ decimal c.nodes)) ++ ((codes " segments" ++ (32 ∷ decimal c.segments)) ++ ((codes " owners" ++ (32 ∷ decimal c.owners))
     ++ ((codes " partition " ++ partition_text c.partition) ++ ((codes " values " ++ kind_text c.values) ++ ((codes " chunk" ++ (32 ∷ decimal c.chunk)) ++ aim_text c.aim)))))
 
+-- so is the row of settings
 row_law : Law at_last row_text sizes_fit config_in
 row_law =
     made_law (λ (p : ℕ × (ℕ × (ℕ × (Partition × (ValueKind × (ℕ × Aim)))))). record { nodes = p.0; segments = p.1.0; owners = p.1.1.0; partition = p.1.1.1.0; values = p.1.1.1.1.0; chunk = p.1.1.1.1.1.0; aim = p.1.1.1.1.1.1 })
@@ -113,17 +117,20 @@ limits_fit c h =
     let e : is_u16 c.chunk ≡ true = le-leb c.chunk 65535 (let x = leb-true c.chunk MOST_CHUNK (and_parts (nat_le 1 c.chunk) _ r.1).1 in omega arith) in
     λ i. a i && (b i && (d i && (true && (true && (e i && true)))))
 
+-- settings in their limits are read as they are written
 pub settings_read : (c : Config) → is_config c ≡ true → config_of (config_text c) ≡ Some c
 settings_read c h =
     ap config_of (row_is c ∙ sym (append-nil (row_text c)))
     ∙ ap (λ r. with_limits (whole_of r)) (row_law.full c [] (limits_fit c h) refl)
     ∙ ap (λ b. if b then Some c else None) h
 
+-- a reading of the whole leaves nothing
 whole_is : {A : Type 0} (r : Reading A) (a : A) → whole_of r ≡ Some a → r ≡ Some (a, [])
 whole_is None a e = absurd (none-some a e)
 whole_is (Some (x, [])) a e = ap (λ z. Some (z, [])) (same_Some x a e)
 whole_is (Some (x, b ∷ s)) a e = absurd (none-some a e)
 
+-- and what is read is their text
 pub settings_only : (s : List ℕ) (c : Config) → config_of s ≡ Some c → (config_text c ≡ s) × (is_config c ≡ true)
 settings_only s c e = by_limits (whole_of (config_in s)) refl e
   where
@@ -143,15 +150,18 @@ partition_one : (p : Partition) → is_one_line (partition_text p) ≡ true
 partition_one partitions.Plain = refl
 partition_one partitions.Grouped = refl
 
+-- the word of a kind of values is one line
 kind_one : (k : ValueKind) → is_one_line (kind_text k) ≡ true
 kind_one values.Int = refl
 kind_one values.Text = refl
 kind_one values.Flag = refl
 
+-- so is that of an aim
 aim_one : (a : Aim) → is_one_line (aim_text a) ≡ true
 aim_one aims.Create = refl
 aim_one aims.Least = refl
 
+-- so are the settings
 pub settings_one : (c : Config) → is_config c ≡ true → is_one_line (config_text c) ≡ true
 settings_one c h =
     let f = limits_fit c h in

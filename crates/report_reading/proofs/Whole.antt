@@ -24,6 +24,7 @@ use Rattle.report_reading.proofs.LineLaws.{line_sound}
 pub closed : (front t rest : List ℕ) → front ++ (t ++ 10 ∷ rest) ≡ (front ++ line t) ++ rest
 closed front t rest = ap (λ z. front ++ z) (sym (append_assoc t (10 ∷ []) rest)) ∙ sym (append_assoc front (line t) rest)
 
+-- a line more has one line feed more
 feeds_line : (front t : List ℕ) → is_one_line t ≡ true → feeds (front ++ line t) ≡ feeds front + 1
 feeds_line front t one = let a = feeds-append front (line t) in let b = feeds-append t (10 ∷ []) in let c = feeds-none t one in omega arith
 
