@@ -3,3 +3,4 @@ pub mod Words
 pub mod Lines
 pub mod Causes
 pub mod Endings
+pub mod WordTable
