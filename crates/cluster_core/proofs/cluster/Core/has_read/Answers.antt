@@ -12,7 +12,7 @@ use Rattle.cluster_core.proofs.cluster.Core.has_read.Goals as goal
 pub returns : goal.returns
 returns c has =
     let read : c.as_slice.result.now ≡ c.in-Some.unit.now.work.entries =
-        c.as_slice.ensures ∙ ap (λ (work : Work). work.entries) (c.behind-unit.view_is ∙ c.work.ensures) in
+    c.as_slice.ensures ∙ ap (λ (work : Work). work.entries) (c.behind-unit.view_is ∙ c.work.ensures) in
     own_piece c.args.self.now c.args.number c.in-Some.unit.now c.in-Some-call.call.now c.args.remote.now c.args.entries.now.list (sym c.in-Some.ensures)
     (ap (call_of c.args.self.now.calling) (sym c.call.ensures) ∙ sym c.in-Some-call.ensures) (sym c.is_walk.ensures ∙ c.if-is_walk.false)
     (ap (λ (request : Request). remote_of request.pipeline) (sym c.request.ensures) ∙ sym c.in_ok-halves.ensures.remote ∙ c.same.ensures.0 c.if-not-same.false)
