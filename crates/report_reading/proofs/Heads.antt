@@ -17,6 +17,7 @@ use Rattle.event_texts.specs.Topologies.{hash_text}
 use Rattle.grid_journal.proofs.Rows.{first_hash_whole, first_owner_text, first_owners_whole, first_row_text}
 use Rattle.pipeline_expr.specs.declared.kind.ValueKind.TheVariants as values
 use Rattle.segment_hash.specs.declared.partition.Partition.TheVariants as partitions
+use Rattle.topology_phase.specs.declared.aim.Aim.TheVariants as aims
 use Rattle.text_lines.specs.Lines.{Line, feeds, is_one_line, lines_of}
 use Rattle.report_reading.specs.OneLines.{OneLines}
 use Rattle.report_reading.specs.ReportLines.{config_of}
@@ -71,7 +72,7 @@ fresh_front config = append-nil (line (config_text config) ++ line (first_text c
 
 -- the settings of a least cluster
 abbrev least_config : Config
-least_config = record { nodes = 1; segments = 1; owners = 1; partition = partitions.Plain; values = values.Int; chunk = 1 }
+least_config = record { nodes = 1; segments = 1; owners = 1; partition = partitions.Plain; values = values.Int; chunk = 1; aim = aims.Create }
 
 -- some report begins with nothing
 begins_none : BeginsReport []
