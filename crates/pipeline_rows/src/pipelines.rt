@@ -10,6 +10,9 @@ use pipeline_parse::parse_pipeline;
 use sqlite_items::Boxed;
 use std::alloc::Global;
 
+/// How many bytes a pipeline's text may have.
+const LONGEST: usize = 1024;
+
 /// Tells how a row went.
 pub fn told_pipeline(alloc: Global, row: &str) -> Result<String> {
     let (pipeline, rest) = row.split_once(" => ").context("a row without entries")?;
@@ -26,7 +29,11 @@ pub fn told_pipeline(alloc: Global, row: &str) -> Result<String> {
 
 /// The answer of a pipeline over entries, which are read as those of a scan.
 fn answer_of(alloc: Global, pipeline: &str, entries: &str) -> Result<Answer> {
-    let pipeline = parse_pipeline(alloc, pipeline.as_bytes())?;
+    let pipeline = pipeline.as_bytes();
+    if pipeline.len() > LONGEST {
+        bail!("a pipeline of more than 1,024 bytes");
+    }
+    let pipeline = parse_pipeline(alloc, pipeline)?;
     let text = format!(in alloc; "scan 1 {entries} last")?;
     let Event::Scan(scan) = read_event(alloc, text.as_bytes())? else {
         bail!("entries that are none");
