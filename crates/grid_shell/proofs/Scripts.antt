@@ -3,7 +3,7 @@ use Rattle.std.proofs.Common.{◌≡◌, Bool, true, false, List, ℕ, Result, O
 use Rattle.grid_base.specs.declared.limits.TheConstants.{LONGEST_SCRIPT}
 use Rattle.grid_event.specs.declared.config.Config.{Config}
 use Rattle.grid_script.specs.Judging.{Answers, Told, ◌>>=◌}
-use Rattle.grid_script.specs.Lines.{lines_of}
+use Rattle.text_lines.specs.Lines.{lines_of}
 use Rattle.grid_script.specs.Reading.{after_all, body_of, script_of, step_after, step_start}
 use Rattle.grid_script.specs.Scripts.{Lives, Steps}
 use Rattle.grid_script.specs.Settings.{Behind, head_of}
