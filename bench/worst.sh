@@ -88,9 +88,12 @@ distinct_values() { settings 1 16 1 100; puts $((400 * $1)) 1; calls 1 1 'map va
 timed() {
     "$1" "$2" >"$folder/script"
     for _ in 1 2 3; do
-        if ! /usr/bin/time -q -a -o "$folder/times" -f "%U %S %M" ./grid step --form brief \
-            <"$folder/script" >"$folder/out"; then
-            echo "$1 at $2: it failed" >&2
+        local status=0
+        /usr/bin/time -q -a -o "$folder/times" -f "%U %S %M" ./grid step --form brief \
+            <"$folder/script" >"$folder/out" || status=$?
+        # a run that fills its journal ends with 7
+        if [ "$status" -ne 0 ] && [ "$status" -ne 7 ]; then
+            echo "$1 at $2: it ended with status $status" >&2
             exit 1
         fi
     done
