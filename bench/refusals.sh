@@ -12,7 +12,7 @@ trap 'rm -rf "$folder"' EXIT
 data=crates/worked_rows/data
 ./grid step <examples/first.grid >"$folder/first"
 gcc -O2 -shared -fPIC -o "$folder/refuse.so" bench/refuse.c
-program=crates/grid/out/grid
+program=crates/grid/out/grid-proved
 [ -x "$program" ] || program=crates/grid/out/grid-unproved
 
 # One run with the N-th request refused (0: none): its status is the answer.
