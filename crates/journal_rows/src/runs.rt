@@ -3,7 +3,7 @@
 //! A row has the name of a run and what is made of its journal: `report`, `brief` or `json`. The
 //! settings stand in the file of that name that ends with `grid`, the events in the one that ends
 //! with `events`, a text a line, or `- idle` and the number of a script line, and what is expected
-//! in the one that ends with what is made.
+//! in the one that ends with what is made. A report is read back too.
 
 ghost use Rattle.std.specs.Prelude.{◌≡◌, true, IfOk, IsSome};
 ghost use Rattle.grid_event.specs.Configs.{is_config};
@@ -14,9 +14,13 @@ use grid_base::Bytes;
 use grid_event::{Config, Journal};
 use grid_journal::{brief, brief_json, report};
 use grid_script::{Script, ScriptKind, read_script};
+use report_reading::read_report;
 use std::alloc::Global;
 use std::fs;
 use std::rt::Files;
+
+/// How many bytes a report that is read back may have.
+const LONGEST: usize = 65_536;
 
 /// Tells how a row went.
 pub fn told_run<R: Files + AllocGlobal>(rt: &R, row: &str) -> Result<String> {
@@ -28,7 +32,8 @@ pub fn told_run<R: Files + AllocGlobal>(rt: &R, row: &str) -> Result<String> {
     let journal = journal_of(alloc, config, str::from_utf8(events.as_slice())?)?;
     let made = made(alloc, kind, &journal)?;
     let wanted = bytes_of(rt, name, kind)?;
-    Ok(if made.as_slice() == wanted.as_slice() {
+    let is_read = kind != "report" || is_read_back(alloc, made.as_slice())?;
+    Ok(if is_read && made.as_slice() == wanted.as_slice() {
         format!(in alloc; "same {row}")?
     } else {
         format!(in alloc; "differs {row}")?
@@ -97,4 +102,18 @@ fn made(alloc: Global, kind: &str, journal: &Journal) -> Result<Bytes>
         return Ok(brief_json(alloc, journal)?);
     }
     bail!("a run of no known kind")
+}
+
+/// Whether a report is read back as a journal with the same report.
+fn is_read_back(alloc: Global, text: &[u8]) -> Result<bool> {
+    if text.len() > LONGEST {
+        bail!("a report of more than 65,536 bytes");
+    }
+    let mut journal = Journal::new(alloc);
+    read_report(alloc, text, &mut journal)?;
+    let Some(_config) = journal.config() else {
+        bail!("a report without settings");
+    };
+    let again = report(alloc, &journal)?;
+    Ok(again.as_slice() == text)
 }
