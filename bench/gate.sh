@@ -1,7 +1,8 @@
 #!/usr/bin/env bash
 # Runs the gate. It prints for each of its parts when it was done, and at the end a table of the
 # processor time that each crate took: for its proof, for the proof of its tests and for its must-fail
-# edits, in seconds, looked up every two seconds. Parts run side by side. What an earlier run on this
+# edits, in seconds, looked up every two seconds. It counts every prover of the machine, so nothing
+# else may prove beside it. Parts run side by side. What an earlier run on this
 # machine proved is kept, says so, and costs nothing; `rt ci --anew` behind it proves all.
 set -o pipefail
 cd "$(dirname "$0")/.." || exit 1
