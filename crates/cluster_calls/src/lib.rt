@@ -17,6 +17,3 @@ pub use call::Call;
 pub use calls::Calls;
 pub use taken::Taken;
 pub use unit::Unit;
-
-#[cfg(test)]
-mod tests;

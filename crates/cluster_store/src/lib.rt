@@ -9,6 +9,3 @@ mod owners;
 mod store;
 
 pub use store::Store;
-
-#[cfg(test)]
-mod tests;

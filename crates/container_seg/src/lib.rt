@@ -7,6 +7,3 @@ mod parts;
 mod segment_map;
 
 pub use container::Container;
-
-#[cfg(test)]
-mod tests;

@@ -51,6 +51,3 @@ pub use text::Text;
 pub use text_fault::TextFault;
 pub use topology_id::TopologyId;
 pub use unit_id::UnitId;
-
-#[cfg(test)]
-mod tests;

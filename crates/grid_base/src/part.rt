@@ -58,6 +58,3 @@ pub trait Part: Drop + Sized {
     // It doesn't matter which two are joined first.
     ghost associates: { (a b c : Self) → fitting a b ≡ true → fitting (joined a b) c ≡ true → joined (joined a b) c ≡ joined a (joined b c) };
 }
-
-#[cfg(test)]
-mod tests;

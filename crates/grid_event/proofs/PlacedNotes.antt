@@ -11,6 +11,7 @@ pub record FirstPlaced (first last : ℕ) (note : Idle) (notes : List Idle) : Ty
   pub to : note.place ≤ last
   pub others : are_placed note.place last notes ≡ true
 
+-- notes that stand in order tell the places of the first of them
 pub first_placed : (first last : ℕ) (note : Idle) (notes : List Idle) → are_placed first last (note ∷ notes) ≡ true → FirstPlaced first last note notes
 first_placed first last note notes placed =
     let p = and_parts (nat_le first note.place && nat_le note.place last) (are_placed note.place last notes) placed in

@@ -1,5 +1,5 @@
 -- What became of the units of a call, as the events alone tell it. A past lists events, the newest first.
-use Rattle.std.specs.Prelude.{ℕ, ◌+◌, ◌==◌, Bool, true, false, not, ◌&&◌, ◌||◌, if◌then◌else◌, List, [], ◌∷◌, ◌++◌}
+use Rattle.std.specs.Prelude.{ℕ, ◌+◌, ◌==◌, Bool, true, false, not, ◌&&◌, ◌||◌, if◌then◌else◌, Option, None, Some, List, [], ◌∷◌, ◌++◌}
 use Rattle.std.specs.List.{list_any}
 use Rattle.topology_phase.specs.Owners.{among}
 use Rattle.topology_phase.specs.Topologies.{read_owners}
@@ -21,6 +21,13 @@ abbrev pub was_asked : List Event → ℕ → Bool
 was_asked [] unit = false
 was_asked (Round round ∷ past) unit = list_any (λ (ask : Ask). ask.unit == unit) round.asks || was_asked past unit
 was_asked (_ ∷ past) unit = was_asked past unit
+
+-- the call that asked for a unit: the one whose round did so last
+abbrev pub asker_of : List Event → ℕ → Option ℕ
+asker_of [] unit = None
+asker_of (Round round ∷ past) unit =
+    if list_any (λ (ask : Ask). ask.unit == unit) round.asks then Some round.call else asker_of past unit
+asker_of (_ ∷ past) unit = asker_of past unit
 
 -- the unit was refused when it should begin
 abbrev pub was_refused : List Event → ℕ → Bool

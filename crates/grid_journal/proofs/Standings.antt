@@ -14,7 +14,8 @@ use Rattle.grid_event.specs.Maps as maps
 use Rattle.grid_event.specs.Members.{is_live, live_members, loses_segment, newest_topology}
 use Rattle.segment_hash.specs.Segments.{segment_number}
 use Rattle.topology_phase.specs.Topologies.{holders}
-use Rattle.grid_journal.specs.Briefs.{asker_of, given_of, given_to}
+use Rattle.grid_event.specs.UnitHistories.{asker_of}
+use Rattle.grid_journal.specs.Briefs.{given_of, given_to}
 use Rattle.grid_journal.specs.Standing.{Table, askers_of, gifts_of, loses, loses_key, loses_of, membership_of, moves_of, standing_members, standing_of, standing_topology, stands_live, with_asks, with_items, with_one}
 
 -- a table that is changed at one number

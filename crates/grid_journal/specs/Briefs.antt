@@ -1,17 +1,16 @@
 -- The brief of a history: its settings, the calls with their outcomes, and what stands at its end. A past lists events, the newest first.
 use Rattle.std.specs.Prelude.{ℕ, ◌+◌, ◌==◌, if◌then◌else◌, Option, None, Some, List, [], ◌∷◌, ◌++◌, length, reverse, codes, decimal, map}
 use Rattle.std.specs.FinMap as map_of
-use Rattle.std.specs.List.{list_any}
 use Rattle.std.specs.Ordering.{nat_cmp}
-use Rattle.grid_event.specs.declared.call_events.Ask.{Ask}
 use Rattle.grid_event.specs.declared.config.Config.{Config}
 use Rattle.grid_event.specs.declared.event.Event.{Event}
-use Rattle.grid_event.specs.declared.event.Event.TheVariants.{Answer, Round, Take}
+use Rattle.grid_event.specs.declared.event.Event.TheVariants.{Answer, Take}
 use Rattle.grid_event.specs.declared.outcome.Outcome.{Outcome}
 use Rattle.grid_event.specs.declared.outcome.Outcome.TheVariants as outcomes
 use Rattle.grid_event.specs.Histories.{History}
 use Rattle.grid_event.specs.Maps.{entries_of}
 use Rattle.grid_event.specs.Members.{live_members, newest_topology}
+use Rattle.grid_event.specs.UnitHistories.{asker_of}
 use Rattle.topology_phase.specs.Topologies.{Topology}
 use Rattle.serde_json.specs.Data.{Data, array, member, no_members, number, object, string, unsigned}
 use Rattle.serde_json.specs.View.{items_of}
@@ -21,13 +20,6 @@ use Rattle.grid_journal.specs.Rebalances.{told_least}
 use Rattle.grid_journal.specs.Reports.{config_text, line}
 use Rattle.event_texts.specs.Topologies.{hash_text, owners_text, phase_text}
 use Rattle.event_texts.specs.Words.{words}
-
--- the call that asked for a unit: the one whose round did so last
-abbrev pub asker_of : List Event → ℕ → Option ℕ
-asker_of [] unit = None
-asker_of (Round round ∷ past) unit =
-    if list_any (λ (ask : Ask). ask.unit == unit) round.asks then Some round.call else asker_of past unit
-asker_of (_ ∷ past) unit = asker_of past unit
 
 -- so many items more for the call, where it is the one that asked
 abbrev pub given_to : ℕ → Option ℕ → ℕ → ℕ → ℕ

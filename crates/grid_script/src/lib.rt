@@ -52,6 +52,3 @@ pub use script_kind::ScriptKind;
 pub use session::Session;
 pub use step_line::StepLine;
 pub use step_script::StepScript;
-
-#[cfg(test)]
-mod tests;

@@ -7,8 +7,6 @@ mod plain;
 mod runs;
 mod sources;
 mod status;
-#[cfg(test)]
-mod tests;
 mod texts;
 mod word_laws;
 mod words;

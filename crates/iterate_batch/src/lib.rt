@@ -9,6 +9,3 @@ mod marks;
 mod walk;
 
 pub use walk::Walk;
-
-#[cfg(test)]
-mod tests;

@@ -8,6 +8,3 @@ mod feed;
 mod stages;
 
 pub use feed::Feed;
-
-#[cfg(test)]
-mod tests;

@@ -18,6 +18,3 @@ pub use laws::{
     pieces_fit_in_any_groups, pieces_join, pieces_join_in_any_groups, typed_pieces_fit,
 };
 pub use piece::Piece;
-
-#[cfg(test)]
-mod tests;

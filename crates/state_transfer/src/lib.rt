@@ -14,6 +14,3 @@ mod transfers;
 
 pub use change::Change;
 pub use copies::Copies;
-
-#[cfg(test)]
-mod tests;

@@ -8,6 +8,3 @@ mod lost;
 mod next;
 
 pub use coord::Coord;
-
-#[cfg(test)]
-mod tests;

@@ -20,6 +20,3 @@ pub use owners::Owners;
 pub use phase::Phase;
 pub use safety::{neighbours_follow, safe_neighbours};
 pub use topology::Topology;
-
-#[cfg(test)]
-mod tests;

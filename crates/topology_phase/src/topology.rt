@@ -169,10 +169,8 @@ impl Topology {
         ensures { result ≡ holders self.now segment }
     {
         match self.phase() {
-            Phase::NoRebalance => self.current_owners(segment),
-            Phase::ReadOld => self.current_owners(segment),
-            Phase::ReadAll => self.all_owners(segment),
-            Phase::ReadNew => self.all_owners(segment),
+            Phase::NoRebalance | Phase::ReadOld => self.current_owners(segment),
+            Phase::ReadAll | Phase::ReadNew => self.all_owners(segment),
         }
     }
 

@@ -1,5 +1,0 @@
-use Rattle.state_transfer.proofs.ClosedLaws.{closed_provides_none}
-use Rattle.state_transfer.proofs.tests.join.Goals as goal
-
-pub join-requires-clause-provides_none : goal.join-requires-clause-provides_none
-join-requires-clause-provides_none c = λ s. closed_provides_none _ _ c.close_all.ensures _ s
