@@ -4,6 +4,10 @@
 
 mod words;
 
+ghost use Rattle.std.specs.Prelude.{◌≡◌};
+ghost use Rattle.std.specs.Process.{exit_status};
+ghost use Rattle.grid_shell.specs.Statuses.{number_of};
+
 use crate::words::words;
 use grid_event::Journal;
 use grid_io::{StdSink, StdSource};
@@ -13,7 +17,7 @@ use std::process::ExitCode;
 
 fn main(rt: HostRuntime) -> ExitCode {
     let Ok(words) = words(&rt, rt.alloc()) else {
-        return ExitCode::from(Status::NoMemory.number());
+        return exit_code(Status::NoMemory);
     };
     let mut source = StdSource::new(rt.reader());
     let mut sink = StdSink::new(io::writer(&rt));
@@ -25,5 +29,12 @@ fn main(rt: HostRuntime) -> ExitCode {
         &mut sink,
         &mut journal,
     );
+    exit_code(status)
+}
+
+/// What the program exits with at a status.
+fn exit_code(status: Status) -> ExitCode
+    ensures { exit_status result ≡ number_of status }
+{
     ExitCode::from(status.number())
 }

@@ -1,2 +1,1 @@
 pub mod FlyingLaws
-mod TestLaws
