@@ -6,3 +6,4 @@ pub mod FieldLaws
 pub mod CallLaws
 pub mod EventLaws
 pub mod Turns
+pub mod Ranges

@@ -67,9 +67,13 @@ abbrev pub none_barred : {T : Type 0} → (T → List T → Bool) → List T →
 none_barred bars before [] = true
 none_barred bars before (t ∷ list) = not (bars t before) && none_barred bars (before ++ t ∷ []) list
 
+-- owners of whom none stands among those before him
+abbrev pub are_owners : List ℕ → Bool
+are_owners owners = none_barred among [] owners && list_all is_u8 owners
+
 -- at most four owners, none of which stands among those before it
 abbrev pub owners_fit : List ℕ → Bool
-owners_fit owners = nat_le (length owners) 4 && (none_barred among [] owners && list_all is_u8 owners)
+owners_fit owners = nat_le (length owners) 4 && are_owners owners
 
 -- 1 to 256 segments, each with owners that fit
 abbrev pub hash_fits : Hash → Bool
@@ -144,3 +148,8 @@ event_fits (events.Fetch fetch) = is_u32 fetch.unit && all_fit entry_fits fetch.
 event_fits (events.Take take) = is_u32 take.unit && (all_fit entry_fits take.entries && all_fit item_fits take.given)
 event_fits (events.Done unit) = is_u32 unit
 event_fits (events.Answer answer) = is_u32 answer.call && outcome_fits answer.outcome
+
+-- the text of the event's pipeline, where it has one, has at most 1,024 bytes
+abbrev pub is_short : Event → Bool
+is_short (events.Invoke invoke) = nat_le (length (text_of invoke.request.pipeline)) 1024
+is_short _ = true

@@ -1,7 +1,8 @@
 //! Writing outcomes at the end of a text. Each call fails only where memory runs out.
 
-ghost use Rattle.std.specs.Prelude.{◌≡◌, ◌++◌, OnOk};
+ghost use Rattle.std.specs.Prelude.{◌≡◌, ◌++◌, true, OnOk};
 ghost use Rattle.event_texts.specs.Events.{answer_text, best_text, outcome_text};
+ghost use Rattle.event_texts.specs.Fits.{answer_fits, best_fits, outcome_fits};
 
 use crate::words::{add_int, add_items, add_number_word};
 use grid_base::{Bytes, Datum, NoMemory};
@@ -11,7 +12,8 @@ use pipeline_parse::writing::add_datum;
 /// Adds how a call ended.
 #[tactic(auto, unfolding(crate::specs::Events::outcome_text))]
 pub fn add_outcome(out: &mut Bytes, outcome: &Outcome) -> Result<(), NoMemory>
-    ensures { OnOk result (out.new.list ≡ out.old.list ++ outcome_text outcome.now) }
+    ensures text { OnOk result (out.new.list ≡ out.old.list ++ outcome_text outcome.now) }
+    ensures keeps { OnOk result (outcome_fits outcome.now ≡ true) }
 {
     match outcome {
         Outcome::Value(answer) => {
@@ -35,7 +37,8 @@ pub fn add_outcome(out: &mut Bytes, outcome: &Outcome) -> Result<(), NoMemory>
 /// Adds the answer of a pipeline.
 #[tactic(auto, unfolding(crate::specs::Events::answer_text))]
 fn add_answer(out: &mut Bytes, answer: &Answer) -> Result<(), NoMemory>
-    ensures { OnOk result (out.new.list ≡ out.old.list ++ answer_text answer.now) }
+    ensures text { OnOk result (out.new.list ≡ out.old.list ++ answer_text answer.now) }
+    ensures keeps { OnOk result (answer_fits answer.now ≡ true) }
 {
     match answer {
         Answer::Count(number) => {
@@ -59,7 +62,8 @@ fn add_answer(out: &mut Bytes, answer: &Answer) -> Result<(), NoMemory>
 
 /// Adds the least or the greatest element, or that there is none.
 fn add_best(out: &mut Bytes, best: &Option<Datum>) -> Result<(), NoMemory>
-    ensures { OnOk result (out.new.list ≡ out.old.list ++ best_text best.now) }
+    ensures text { OnOk result (out.new.list ≡ out.old.list ++ best_text best.now) }
+    ensures keeps { OnOk result (best_fits best.now ≡ true) }
 {
     match best {
         None => out.extend(b"none"),

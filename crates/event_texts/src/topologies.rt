@@ -1,8 +1,11 @@
 //! Writing hashes and topologies at the end of a text. Each call fails only where memory runs out.
 
-ghost use Rattle.std.specs.Prelude.{◌≡◌, ◌<◌, ◌∷◌, ◌++◌, [], length, OnOk, decimal, slice_index_or};
+ghost use Rattle.std.specs.Prelude.{◌≡◌, ◌<◌, ◌∷◌, ◌++◌, [], true, false, length, OnOk, decimal, slice_index_or};
+ghost use Rattle.std.specs.List.{list_all};
 ghost use Rattle.topology_phase.specs.Owners.{owners_at};
+ghost use Rattle.topology_phase.specs.Phases.{same_phase};
 ghost use Rattle.topology_phase.specs.Topologies.{Topology};
+ghost use Rattle.event_texts.specs.Fits.{are_owners, is_u8, topology_fits};
 ghost use Rattle.event_texts.specs.Topologies.{hash_text, owners_text, pending_text, phase_text, topology_text};
 ghost use Rattle.event_texts.specs.Words.{between};
 
@@ -13,8 +16,11 @@ use topology_phase::{Hash, Owners, Phase, Topology};
 /// Adds a topology.
 #[tactic(auto, unfolding(crate::specs::Topologies::topology_text))]
 pub(crate) fn add_topology(out: &mut Bytes, topology: &Topology) -> Result<(), NoMemory>
-    ensures { OnOk result (out.new.list ≡ out.old.list ++ topology_text topology.now) }
+    ensures text { OnOk result (out.new.list ≡ out.old.list ++ topology_text topology.now) }
+    ensures keeps { OnOk result (topology_fits topology.now ≡ true) }
 {
+    // Only the proof reads the number of segments, with which the type tells what it keeps.
+    let _segments = topology.segments();
     add_number(out, u64::from(topology.id().number()))?;
     out.push(b' ')?;
     add_phase(out, topology.phase())?;
@@ -25,7 +31,8 @@ pub(crate) fn add_topology(out: &mut Bytes, topology: &Topology) -> Result<(), N
 
 /// Adds the pending hash of a topology behind a blank, where there is one.
 fn add_pending(out: &mut Bytes, topology: &Topology) -> Result<(), NoMemory>
-    ensures { OnOk result (out.new.list ≡ out.old.list ++ pending_text topology.now.phase topology.now.pending) }
+    ensures text { OnOk result (out.new.list ≡ out.old.list ++ pending_text topology.now.phase topology.now.pending) }
+    ensures keeps { OnOk result (same_phase topology.now.phase Phase.NoRebalance ≡ false → list_all are_owners topology.now.pending ≡ true) }
 {
     let Some(pending) = topology.pending() else {
         return Ok(());
@@ -49,7 +56,8 @@ pub fn add_phase(out: &mut Bytes, phase: Phase) -> Result<(), NoMemory>
 
 /// Adds the owners of all segments, with a semicolon between each two.
 pub fn add_hash(out: &mut Bytes, hash: &Hash) -> Result<(), NoMemory>
-    ensures { OnOk result (out.new.list ≡ out.old.list ++ hash_text hash.now) }
+    ensures text { OnOk result (out.new.list ≡ out.old.list ++ hash_text hash.now) }
+    ensures keeps { OnOk result (list_all are_owners hash.now ≡ true) }
 {
     for segment in 0..hash.segments() {
         add_between(out, b';', segment as u32)?;
@@ -60,7 +68,8 @@ pub fn add_hash(out: &mut Bytes, hash: &Hash) -> Result<(), NoMemory>
 
 /// Adds owners, with a comma between each two.
 fn add_owners(out: &mut Bytes, owners: Owners) -> Result<(), NoMemory>
-    ensures { OnOk result (out.new.list ≡ out.old.list ++ owners_text owners) }
+    ensures text { OnOk result (out.new.list ≡ out.old.list ++ owners_text owners) }
+    ensures keeps { OnOk result (are_owners owners ≡ true) }
 {
     for place in 0..owners.len() {
         add_between(out, b',', place as u32)?;
@@ -72,7 +81,8 @@ fn add_owners(out: &mut Bytes, owners: Owners) -> Result<(), NoMemory>
 /// Adds the owner at a place.
 fn add_owner(out: &mut Bytes, owners: Owners, place: u8) -> Result<(), NoMemory>
     requires { place < length owners }
-    ensures { OnOk result (out.new.list ≡ out.old.list ++ decimal (slice_index_or owners place 0)) }
+    ensures text { OnOk result (out.new.list ≡ out.old.list ++ decimal (slice_index_or owners place 0)) }
+    ensures keeps { OnOk result (is_u8 (slice_index_or owners place 0) ≡ true) }
 {
     let Some(node) = owners.get(place) else {
         return Ok(());

@@ -1,8 +1,10 @@
 //! Writing words: numbers, values and lists of entries and of items, at the end of a text. Each
 //! call fails only where memory runs out.
 
-ghost use Rattle.std.specs.Prelude.{◌≡◌, ◌∷◌, ◌++◌, [], OnOk, decimal, map};
+ghost use Rattle.std.specs.Prelude.{◌≡◌, ◌∷◌, ◌++◌, [], true, OnOk, decimal, map};
+ghost use Rattle.std.specs.List.{list_all};
 ghost use Rattle.std.specs.Fmt.{signed_decimal};
+ghost use Rattle.event_texts.specs.Fits.{all_fit, entry_fits, item_fits, stamped_entry_fits, stamped_fits, until_fits};
 ghost use Rattle.event_texts.specs.Words.{counted_text, each_behind, entry_text, item_text, stamped_entry_text, stamped_text, until_text};
 
 use grid_base::{Bytes, Entry, Item, NoMemory, Stamped, StampedEntry};
@@ -41,7 +43,8 @@ pub(crate) fn add_int(out: &mut Bytes, number: i64) -> Result<(), NoMemory>
 
 /// Adds the deadline of a value, where it has one.
 pub(crate) fn add_until(out: &mut Bytes, until: Option<u32>) -> Result<(), NoMemory>
-    ensures { OnOk result (out.new.list ≡ out.old.list ++ until_text until) }
+    ensures text { OnOk result (out.new.list ≡ out.old.list ++ until_text until) }
+    ensures keeps { OnOk result (until_fits until ≡ true) }
 {
     let Some(deadline) = until else {
         return Ok(());
@@ -52,7 +55,8 @@ pub(crate) fn add_until(out: &mut Bytes, until: Option<u32>) -> Result<(), NoMem
 
 /// Adds a value and its deadline.
 fn add_stamped(out: &mut Bytes, stamped: &Stamped) -> Result<(), NoMemory>
-    ensures { OnOk result (out.new.list ≡ out.old.list ++ stamped_text stamped.now) }
+    ensures text { OnOk result (out.new.list ≡ out.old.list ++ stamped_text stamped.now) }
+    ensures keeps { OnOk result (stamped_fits stamped.now ≡ true) }
 {
     add_datum(out, &stamped.value)?;
     add_until(out, stamped.until)
@@ -60,7 +64,8 @@ fn add_stamped(out: &mut Bytes, stamped: &Stamped) -> Result<(), NoMemory>
 
 /// Adds an entry.
 fn add_entry(out: &mut Bytes, entry: &Entry) -> Result<(), NoMemory>
-    ensures { OnOk result (out.new.list ≡ out.old.list ++ entry_text entry.now) }
+    ensures text { OnOk result (out.new.list ≡ out.old.list ++ entry_text entry.now) }
+    ensures keeps { OnOk result (entry_fits entry.now ≡ true) }
 {
     out.extend(entry.key.bytes())?;
     out.push(b' ')?;
@@ -69,7 +74,8 @@ fn add_entry(out: &mut Bytes, entry: &Entry) -> Result<(), NoMemory>
 
 /// Adds an entry with its deadline.
 fn add_stamped_entry(out: &mut Bytes, entry: &StampedEntry) -> Result<(), NoMemory>
-    ensures { OnOk result (out.new.list ≡ out.old.list ++ stamped_entry_text entry.now) }
+    ensures text { OnOk result (out.new.list ≡ out.old.list ++ stamped_entry_text entry.now) }
+    ensures keeps { OnOk result (stamped_entry_fits entry.now ≡ true) }
 {
     out.extend(entry.key.bytes())?;
     out.push(b' ')?;
@@ -78,7 +84,8 @@ fn add_stamped_entry(out: &mut Bytes, entry: &StampedEntry) -> Result<(), NoMemo
 
 /// Adds an item.
 fn add_item(out: &mut Bytes, item: &Item) -> Result<(), NoMemory>
-    ensures { OnOk result (out.new.list ≡ out.old.list ++ item_text item.now) }
+    ensures text { OnOk result (out.new.list ≡ out.old.list ++ item_text item.now) }
+    ensures keeps { OnOk result (item_fits item.now ≡ true) }
 {
     match item {
         Item::Entry(entry) => {
@@ -91,7 +98,8 @@ fn add_item(out: &mut Bytes, item: &Item) -> Result<(), NoMemory>
 
 /// Adds a blank, the number of entries, and each of them behind a blank.
 pub(crate) fn add_entries(out: &mut Bytes, entries: &[Entry]) -> Result<(), NoMemory>
-    ensures { OnOk result (out.new.list ≡ out.old.list ++ 32 ∷ counted_text entry_text entries.now) }
+    ensures text { OnOk result (out.new.list ≡ out.old.list ++ 32 ∷ counted_text entry_text entries.now) }
+    ensures keeps { OnOk result (all_fit entry_fits entries.now ≡ true) }
 {
     add_number_word(out, entries.len() as u64)?;
     add_each_entry(out, entries)
@@ -99,7 +107,8 @@ pub(crate) fn add_entries(out: &mut Bytes, entries: &[Entry]) -> Result<(), NoMe
 
 /// Adds each entry behind a blank.
 fn add_each_entry(out: &mut Bytes, entries: &[Entry]) -> Result<(), NoMemory>
-    ensures { OnOk result (out.new.list ≡ out.old.list ++ each_behind 32 (map entry_text entries.now)) }
+    ensures text { OnOk result (out.new.list ≡ out.old.list ++ each_behind 32 (map entry_text entries.now)) }
+    ensures keeps { OnOk result (list_all entry_fits entries.now ≡ true) }
 {
     for entry in entries {
         out.push(b' ')?;
@@ -110,7 +119,8 @@ fn add_each_entry(out: &mut Bytes, entries: &[Entry]) -> Result<(), NoMemory>
 
 /// Adds a blank, the number of entries, and each of them with its deadline behind a blank.
 pub(crate) fn add_stamped_entries(out: &mut Bytes, entries: &[StampedEntry]) -> Result<(), NoMemory>
-    ensures { OnOk result (out.new.list ≡ out.old.list ++ 32 ∷ counted_text stamped_entry_text entries.now) }
+    ensures text { OnOk result (out.new.list ≡ out.old.list ++ 32 ∷ counted_text stamped_entry_text entries.now) }
+    ensures keeps { OnOk result (all_fit stamped_entry_fits entries.now ≡ true) }
 {
     add_number_word(out, entries.len() as u64)?;
     add_each_stamped_entry(out, entries)
@@ -118,7 +128,8 @@ pub(crate) fn add_stamped_entries(out: &mut Bytes, entries: &[StampedEntry]) -> 
 
 /// Adds each entry with its deadline behind a blank.
 fn add_each_stamped_entry(out: &mut Bytes, entries: &[StampedEntry]) -> Result<(), NoMemory>
-    ensures { OnOk result (out.new.list ≡ out.old.list ++ each_behind 32 (map stamped_entry_text entries.now)) }
+    ensures text { OnOk result (out.new.list ≡ out.old.list ++ each_behind 32 (map stamped_entry_text entries.now)) }
+    ensures keeps { OnOk result (list_all stamped_entry_fits entries.now ≡ true) }
 {
     for entry in entries {
         out.push(b' ')?;
@@ -129,7 +140,8 @@ fn add_each_stamped_entry(out: &mut Bytes, entries: &[StampedEntry]) -> Result<(
 
 /// Adds a blank, the number of items, and each of them behind a blank.
 pub(crate) fn add_items(out: &mut Bytes, items: &[Item]) -> Result<(), NoMemory>
-    ensures { OnOk result (out.new.list ≡ out.old.list ++ 32 ∷ counted_text item_text items.now) }
+    ensures text { OnOk result (out.new.list ≡ out.old.list ++ 32 ∷ counted_text item_text items.now) }
+    ensures keeps { OnOk result (all_fit item_fits items.now ≡ true) }
 {
     add_number_word(out, items.len() as u64)?;
     add_each_item(out, items)
@@ -137,7 +149,8 @@ pub(crate) fn add_items(out: &mut Bytes, items: &[Item]) -> Result<(), NoMemory>
 
 /// Adds each item behind a blank.
 fn add_each_item(out: &mut Bytes, items: &[Item]) -> Result<(), NoMemory>
-    ensures { OnOk result (out.new.list ≡ out.old.list ++ each_behind 32 (map item_text items.now)) }
+    ensures text { OnOk result (out.new.list ≡ out.old.list ++ each_behind 32 (map item_text items.now)) }
+    ensures keeps { OnOk result (list_all item_fits items.now ≡ true) }
 {
     for item in items {
         out.push(b' ')?;

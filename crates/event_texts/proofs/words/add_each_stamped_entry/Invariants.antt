@@ -1,8 +1,12 @@
-use Rattle.std.proofs.Common.{◌≡◌, ◌++◌, map, drop}
+use Rattle.std.proofs.Common.{◌≡◌, ◌++◌, true, map, drop, take}
+use Rattle.std.specs.List.{list_all}
+use Rattle.event_texts.specs.Fits.{stamped_entry_fits}
 use Rattle.event_texts.specs.Words.{each_behind, stamped_entry_text}
 use Rattle.event_texts.proofs.words.add_each_stamped_entry.Given as goal
 
--- what stands there and the text of those left are the whole
+-- what stands there and the text of those left are the whole, and those so far keep their ranges
 abbrev pub invariant-loop-entry : goal.invariant-loop-entry
-invariant-loop-entry l =
-    l.out.list ++ each_behind 32 (map stamped_entry_text (drop l.entry-index l.entries)) ≡ l.initial.out.list ++ each_behind 32 (map stamped_entry_text l.entries)
+invariant-loop-entry l = record {
+  text : l.out.list ++ each_behind 32 (map stamped_entry_text (drop l.entry-index l.entries)) ≡ l.initial.out.list ++ each_behind 32 (map stamped_entry_text l.entries);
+  keeps : list_all stamped_entry_fits (take l.entry-index l.entries) ≡ true;
+}
