@@ -154,11 +154,6 @@ pub with_event_at-room : (line : ℕ) (event : Event) (st : State) (h : History)
 unfolding with_event_at
 with_event_at-room line event st h room = rw room refl
 
--- what is not true is false
-pub not_true : (b : Bool) → (b ≡ true → ⊥) → b ≡ false
-not_true true never = absurd (never refl)
-not_true false never = refl
-
 -- equal clusters with equal histories are at the same place
 pub same_running : {st su : State} {h i : History} → st ≡ su → h ≡ i → running st h ≡ running su i
 same_running a b = λ i. record { state = a i; history = b i; stopped = None }

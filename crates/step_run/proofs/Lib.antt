@@ -1,4 +1,5 @@
 pub mod Fronts
+pub mod Taken
 pub mod Resuming
 pub mod Kept
 pub mod Endings
