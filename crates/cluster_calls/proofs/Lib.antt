@@ -20,4 +20,3 @@ pub mod PartRounds
 pub mod PartQueries
 pub mod ListedLaws
 pub mod LosingLaws
-pub mod TestLaws

@@ -11,7 +11,8 @@ ghost use Rattle.grid_shell.specs.Statuses.{number_of};
 use crate::words::words;
 use grid_event::Journal;
 use grid_io::{StdSink, StdSource};
-use grid_shell::{Status, run_plain};
+use grid_shell::{Status, run};
+use node_workers::NoGate;
 use std::io;
 use std::process::ExitCode;
 
@@ -22,11 +23,13 @@ fn main(rt: HostRuntime) -> ExitCode {
     let mut source = StdSource::new(rt.reader());
     let mut sink = StdSink::new(io::writer(&rt));
     let mut journal = Journal::new(rt.alloc());
-    let status = run_plain(
+    let status = run(
+        &rt,
         rt.alloc(),
         words.as_slice(),
         &mut source,
         &mut sink,
+        &NoGate,
         &mut journal,
     );
     exit_code(status)

@@ -4,7 +4,8 @@ use Rattle.grid_base.specs.declared.limits.TheConstants.{LONGEST_SCRIPT}
 use Rattle.grid_event.specs.declared.config.Config.{Config}
 use Rattle.grid_script.specs.Judging.{Answers, Told, ◌>>=◌}
 use Rattle.text_lines.specs.Lines.{lines_of}
-use Rattle.grid_script.specs.Reading.{after_all, body_of, script_of, step_after, step_start}
+use Rattle.grid_script.specs.LiveLines.{lives_of}
+use Rattle.grid_script.specs.Reading.{after_all, body_of, live_after, live_start, script_of, step_after, step_start}
 use Rattle.grid_script.specs.Scripts.{Lives, Steps}
 use Rattle.grid_script.specs.Settings.{Behind, head_of}
 use Rattle.grid_script.specs.declared.reason.Reason.TheVariants.{TooLong}
@@ -40,3 +41,26 @@ unfolding script_of
 never_live bytes live h =
     body_alone (head_of kinds.Step (lines_of bytes)) live
     (unless_long (nat_lt LONGEST_SCRIPT (length bytes)) (head_of kinds.Step (lines_of bytes) >>= body_of kinds.Step) live h)
+
+-- the script of a live run is no stepped one
+lives_alone : {A : Type 0} (r : Told A) (f : A → Lives) (steps : Steps) → (r >>= (λ known. Ok (scripts.Live (f known)))) ≡ Ok (scripts.Step steps) → ⊥
+lives_alone (Ok known) f steps h = cc
+lives_alone (Err fault) f steps h = cc
+
+-- nor is what follows the head of a live script
+lives_body : (r : Told (Behind Config)) (steps : Steps) → (r >>= body_of kinds.Live) ≡ Ok (scripts.Step steps) → ⊥
+unfolding body_of
+lives_body (Ok head) steps h = lives_alone (after_all live_after (live_start head.it) head.next head.lines) lives_of steps h
+lives_body (Err fault) steps h = cc
+
+-- nor is a script that isn't too long
+unless_long_steps : (long : Bool) (r : Told Script) (steps : Steps) → (if long then Err (0, TooLong) else r) ≡ Ok (scripts.Step steps) → r ≡ Ok (scripts.Step steps)
+unless_long_steps true r steps h = absurd (cc)
+unless_long_steps false r steps h = h
+
+-- the script of a live run is no other script
+pub never_step : (bytes : List ℕ) (steps : Steps) → script_of kinds.Live bytes ≡ Ok (scripts.Step steps) → ⊥
+unfolding script_of
+never_step bytes steps h =
+    lives_body (head_of kinds.Live (lines_of bytes)) steps
+    (unless_long_steps (nat_lt LONGEST_SCRIPT (length bytes)) (head_of kinds.Live (lines_of bytes) >>= body_of kinds.Live) steps h)

@@ -1,6 +1,5 @@
 -- Options that are read one after the other are told as they are given, each at most once.
-use Rattle.std.proofs.Common.{◌≡◌, ℕ, Bool, true, false, not, ◌&&◌, ◌||◌, if◌then◌else◌, List, [], ◌∷◌, ◌++◌, Option, None, Some, is_none, is_some, option_map, unwrap_or, refl, sym, ap, ◌∙◌}
-use Rattle.std.specs.Prelude.{option_and_then}
+use Rattle.std.proofs.Common.{◌≡◌, ℕ, Bool, true, false, not, ◌||◌, if◌then◌else◌, List, [], ◌∷◌, Option, None, Some, is_none, is_some, option_map, unwrap_or, refl, sym, ap, ◌∙◌}
 use Rattle.std.proofs.lemmas.Bool.{and_from, and_parts, true≢false}
 use Rattle.std.specs.List.{list_all}
 use Rattle.grid_shell.specs.declared.asks.Form.{Form}
@@ -8,7 +7,7 @@ use Rattle.grid_shell.specs.declared.words.Name.{Name}
 use Rattle.grid_shell.specs.declared.words.Name.TheVariants as names
 use Rattle.grid_shell.specs.declared.words.Start.{Start}
 use Rattle.grid_shell.specs.declared.words.Told.{Told}
-use Rattle.grid_shell.specs.Words.{form_of, is_told, number_in, takes, told_of, untold}
+use Rattle.grid_shell.specs.Words.{form_of, is_told, number_in, takes, told_of}
 use Rattle.grid_shell.specs.WordTable.{Choice, are_once, form_given, given_for, is_name, is_taken, number_given, spells}
 
 -- what is there is what it is equal to

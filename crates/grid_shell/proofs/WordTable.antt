@@ -1,5 +1,5 @@
 -- The words are read as the table has them.
-use Rattle.std.proofs.Common.{◌≡◌, ◌⊎◌, ℕ, ◌==◌, Bool, true, false, not, ◌&&◌, if◌then◌else◌, List, [], ◌∷◌, ◌++◌, Option, None, Some, is_none, is_some, option_map, unwrap_or, refl, sym, ap, ◌∙◌, subst, inl, inr, append_assoc}
+use Rattle.std.proofs.Common.{◌≡◌, ℕ, ◌==◌, Bool, true, false, not, ◌&&◌, if◌then◌else◌, List, [], ◌∷◌, ◌++◌, Option, None, Some, is_none, option_map, unwrap_or, refl, sym, ap, ◌∙◌, subst, inl, inr}
 use Rattle.std.specs.Prelude.{option_and_then, codes, ◌↔◌}
 use Rattle.std.proofs.lemmas.Bool.{and_from, and_parts, eqb-true}
 use Rattle.std.proofs.lemmas.List.{append-nil}
@@ -17,8 +17,8 @@ use Rattle.grid_shell.specs.declared.words.Start.{Start}
 use Rattle.grid_shell.specs.declared.words.Start.TheVariants.{Step, Live, Gen}
 use Rattle.grid_shell.specs.declared.words.Told.{Told}
 use Rattle.grid_shell.specs.Words.{after_word, after_words, asked_by, asked_of, behind, by_rest, first_word, form_of, is_told, named, named_option, number_in, number_of, option_word, takes, told_of, untold, value_word}
-use Rattle.grid_shell.specs.WordTable.{AskFor, Begins, Choice, IsAmong, OrderIsFree, WordsAreOfTheTable, are_once, asked_with, choice_words, given_for, is_name, is_taken, name_text}
-use Rattle.grid_shell.proofs.WordOptions.{AreTold, Follows, follow, followed, merged}
+use Rattle.grid_shell.specs.WordTable.{AskFor, Begins, Choice, IsAmong, OrderIsFree, WordsAreOfTheTable, are_once, asked_with, choice_words, given_for, is_name, name_text}
+use Rattle.grid_shell.proofs.WordOptions.{Follows, follow, followed, merged}
 
 -- ---- the name of an option in front of a word
 

@@ -4,3 +4,4 @@ pub mod Lines
 pub mod Causes
 pub mod Endings
 pub mod WordTable
+pub mod LiveCauses

@@ -3,6 +3,7 @@
 
 mod asks;
 mod limits;
+mod live;
 mod plain;
 mod runs;
 mod sources;
@@ -13,6 +14,7 @@ mod words;
 
 pub use asks::{Asked, Form};
 pub use limits::limits_are_these;
+pub use live::run;
 pub use plain::run_plain;
 pub use status::Status;
 pub use word_laws::{the_order_of_options_is_free, words_are_those_of_the_table};

@@ -56,7 +56,12 @@ pub(crate) fn run_script<K: Sink>(
 }
 
 /// Writes the run of a journal in this form.
-fn write_text<K: Sink>(alloc: Global, form: Form, sink: &mut K, journal: &Journal) -> Status
+pub(crate) fn write_text<K: Sink>(
+    alloc: Global,
+    form: Form,
+    sink: &mut K,
+    journal: &Journal,
+) -> Status
     requires { IsSome journal.now.history.config }
     ensures ending { IsEnding result }
     ensures never { result ≡ Status.Full → ⊥ }
@@ -78,7 +83,7 @@ fn write_text<K: Sink>(alloc: Global, form: Form, sink: &mut K, journal: &Journa
 }
 
 /// Writes that the journal was full at a line.
-fn write_full<K: Sink>(alloc: Global, sink: &mut K, line: u32) -> Status
+pub(crate) fn write_full<K: Sink>(alloc: Global, sink: &mut K, line: u32) -> Status
     ensures ending { (result ≡ Status.Full) ⊎ (result ≡ Status.NoMemory) }
     ensures full { result ≡ Status.Full →
         Wrote (K.told sink.old) (K.told sink.new) (K.faults sink.old) (K.faults sink.new) (full_line line) }

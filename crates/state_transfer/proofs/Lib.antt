@@ -12,5 +12,3 @@ pub mod LeavingLaws
 pub mod StepLaws
 pub mod FaithfulTransferLaws
 pub mod Routes
-pub mod ClosedLaws
-pub mod PairLaws

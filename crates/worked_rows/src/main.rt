@@ -1,20 +1,16 @@
 //! Runs scripts whose outcome is known beforehand, and tells of each whether the program says just
 //! that. The file `rows` lists single runs; the file `tables` lists scripts that are run many times,
-//! each time with another fault; the file `parts` lists moments of runs, with what is booked then. All
-//! lie in the folder in which the program runs.
+//! each time with another fault. Both lie in the folder in which the program runs.
 #![tactic(auto)]
 
 mod compare;
 mod cuts;
-mod departures;
 mod faults;
-mod parts;
 mod rows;
 mod runs;
 mod tables;
 
 use anyhow::Result;
-use parts::told_part;
 use rows::told_row;
 use std::fs;
 use tables::told_table;
@@ -30,11 +26,6 @@ fn main(rt: HostRuntime) -> Result<()> {
     let tables = fs::read_to_string(&rt, "tables")?;
     for line in tables.as_str().lines() {
         let told = told_table(&rt, line)?;
-        println!(rt; "{told}")?;
-    }
-    let parts = fs::read_to_string(&rt, "parts")?;
-    for line in parts.as_str().lines() {
-        let told = told_part(&rt, line)?;
         println!(rt; "{told}")?;
     }
     Ok(())

@@ -5,11 +5,9 @@
 //! - `reads`: one read fails after the other;
 //! - `writes`: one write fails after the other;
 //! - `cuts`: the script is cut off at each byte;
-//! - `long`: the script goes on past the length that is read;
-//! - `departures`: nodes depart at each moment of the script's call.
+//! - `long`: the script goes on past the length that is read.
 
 use crate::cuts::{first_cut, first_length};
-use crate::departures::first_departure;
 use crate::faults::{first_read, first_write};
 use anyhow::{Context, Result, bail};
 use grid_base::Text;
@@ -48,9 +46,6 @@ fn first_other(alloc: Global, kind: &str, script: &[u8]) -> Result<Option<u32>> 
     }
     if kind == "long" {
         return Ok(first_length(alloc, words, script)?);
-    }
-    if kind == "departures" {
-        return first_departure(alloc, words, script);
     }
     bail!("a table of no known kind")
 }
