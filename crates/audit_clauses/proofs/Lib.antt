@@ -1,0 +1,2 @@
+pub mod Guarantees
+pub mod FirstFaults

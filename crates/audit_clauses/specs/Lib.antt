@@ -1,0 +1,5 @@
+pub mod Mentions
+pub mod Shapes
+pub mod Clauses
+pub mod Faults
+pub mod Laws
