@@ -1,0 +1,12 @@
+pub mod Askers
+pub mod Flights
+pub mod KnownEntries
+pub mod KnownItems
+pub mod DueOutcomes
+pub mod StoreShapes
+pub mod CallShapes
+pub mod EventShapes
+pub mod NamedNodes
+pub mod NamedEntries
+pub mod ClausesHold
+pub mod Runs
