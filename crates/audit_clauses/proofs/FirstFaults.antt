@@ -59,11 +59,18 @@ one config events a b first second f g = by_fronts (fronts f.before g.before f.e
     by_fronts (Shorter more is) = absurd (f.fails (g.faultless f.before f.event more is first))
     by_fronts (Longer more is) = absurd (g.fails (f.faultless g.before g.event more is second))
     by_fronts (Same same is) =
-        (f.placed ∙ ap (λ (es : List Event). length es + 1) same ∙ sym g.placed, by_order (nat_lt (rank first) (rank second)) (nat_lt (rank second) (rank first)) refl refl)
+        let place = f.placed ∙ ap (λ (es : List Event). length es + 1) same ∙ sym g.placed in
+        (place, by_order (nat_lt (rank first) (rank second)) (nat_lt (rank second) (rank first)) refl refl)
       where
+        there : (which : Clause) → Holds which config (reverse f.before) f.event → Holds which config (reverse g.before) g.event
+        there which h = subst (λ (es : List Event). Holds which config (reverse es) g.event) same (subst (Holds which config (reverse f.before)) is h)
+
+        back : (which : Clause) → Holds which config (reverse g.before) g.event → Holds which config (reverse f.before) f.event
+        back which h = subst (λ (es : List Event). Holds which config (reverse es) f.event) (sym same) (subst (Holds which config (reverse g.before)) (sym is) h)
+
         by_order : (p q : Bool) → nat_lt (rank first) (rank second) ≡ p → nat_lt (rank second) (rank first) ≡ q → first ≡ second
-        by_order true q lt gt = absurd (f.fails (subst (λ (es : List Event). Holds first config (reverse es) f.event) (sym same) (subst (Holds first config (reverse g.before)) (sym is) (g.earlier first lt))))
-        by_order false true lt gt = absurd (g.fails (subst (λ (es : List Event). Holds second config (reverse es) g.event) same (subst (Holds second config (reverse f.before)) is (f.earlier second gt))))
+        by_order true q lt gt = absurd (f.fails (back first (g.earlier first lt)))
+        by_order false true lt gt = absurd (g.fails (there second (f.earlier second gt)))
         by_order false false lt gt =
             let up = ltb-false (rank first) (rank second) lt in let down = ltb-false (rank second) (rank first) gt in
             let equal : rank first ≡ rank second = omega arith in

@@ -38,3 +38,8 @@ pub record IsFirstFault (config : Config) (events : List Event) (place : ℕ) (c
   pub faultless : AreFaultless config before
   pub earlier : (other : Clause) → nat_lt (rank other) (rank clause) ≡ true → Holds other config (reverse before) event
   pub fails : Holds clause config (reverse before) event → ⊥
+
+-- the same of a history with its settings
+abbrev pub IsFirstFaultOf : History → ℕ → Clause → Type 0
+IsFirstFaultOf history place clause =
+    (config : Config) × ((history.config ≡ Some config) × IsFirstFault config history.events place clause)

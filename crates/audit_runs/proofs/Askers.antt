@@ -45,7 +45,8 @@ asker_own (Round r ∷ past) unit call h = by_tests (list_any (asks_for unit) r.
     wider false h = h
     wider true h = list_any-append (asks_for unit) (asks_of_call past call) r.asks ∙ ap (λ b. b || list_any (asks_for unit) r.asks) h
 
-    mine : (c : Bool) → (r.call == call) ≡ c → list_any (asks_for unit) r.asks ≡ true → r.call ≡ call → list_any (asks_for unit) (asks_with past call r.asks c) ≡ true
+    mine : (c : Bool) → (r.call == call) ≡ c → list_any (asks_for unit) r.asks ≡ true → r.call ≡ call
+        → list_any (asks_for unit) (asks_with past call r.asks c) ≡ true
     mine true e here same =
         list_any-append (asks_for unit) (asks_of_call past call) r.asks ∙ or_right (is_unit_of past call unit) (list_any (asks_for unit) r.asks) here
     mine false e here same = let itself = eq-eqb r.call call same in absurd (cc)

@@ -79,7 +79,8 @@ module _ (config : Config) (past : List Event) (st : State) (k : AllKept config 
   -- the call that asked for a unit is the unit's
   asker_is : (number : ℕ) (unit : Unit) → unit_of st.calling number ≡ Some unit → asker_of past number ≡ Some unit.work.call
   asker_is number unit found =
-      let mine : is_unit_of past unit.work.call number ≡ true = unit_told past st unit.work.call number unit k.units.numbered k.links.asks found ∙ eq-eqb unit.work.call unit.work.call refl in
+      let of_call = unit_told past st unit.work.call number unit k.units.numbered k.links.asks found in
+      let mine : is_unit_of past unit.work.call number ≡ true = of_call ∙ eq-eqb unit.work.call unit.work.call refl in
       by_asker (asker_of past number) refl (asker_there past unit.work.call number mine)
     where
       by_asker : (o : Option ℕ) → asker_of past number ≡ o → is_some o ≡ true → o ≡ Some unit.work.call
@@ -107,7 +108,8 @@ module _ (config : Config) (past : List Event) (st : State) (k : AllKept config 
       let on : (call : Call) × GoesOn st (call_of st.calling number) call = going st (call_of st.calling number) h in
       open_goes number on.0 on.1.there on.1.unanswered
 
-  asker_goes : (number : ℕ) (unit : Unit) → unit_of st.calling number ≡ Some unit → states.goes_on st.holding (call_of st.calling unit.work.call) ≡ true
+  asker_goes : (number : ℕ) (unit : Unit) → unit_of st.calling number ≡ Some unit
+      → states.goes_on st.holding (call_of st.calling unit.work.call) ≡ true
       → asker_goes_on past (asker_of past number) ≡ true
   asker_goes number unit found h = ap (asker_goes_on past) (asker_is number unit found) ∙ call_goes unit.work.call h
 
@@ -119,8 +121,10 @@ module _ (config : Config) (past : List Event) (st : State) (k : AllKept config 
       found_test [] e = absurd (cc)
       found_test (u ∷ units) e = by_head (u.work.id == number) refl e (found_test units)
         where
-          by_head : (b : Bool) → (u.work.id == number) ≡ b → cond b (Some u) (find (λ (u : Unit). u.work.id == number) units) ≡ Some unit
-              → (find (λ (u : Unit). u.work.id == number) units ≡ Some unit → (unit.work.id == number) ≡ true) → (unit.work.id == number) ≡ true
+          by_head : (b : Bool) → (u.work.id == number) ≡ b
+              → cond b (Some u) (find (λ (u : Unit). u.work.id == number) units) ≡ Some unit
+              → (find (λ (u : Unit). u.work.id == number) units ≡ Some unit → (unit.work.id == number) ≡ true)
+              → (unit.work.id == number) ≡ true
           by_head true is here rest = let same : u ≡ unit = cc in ap (λ (w : Unit). w.work.id == number) (sym same) ∙ is
           by_head false is there rest = rest there
 
@@ -129,7 +133,8 @@ module _ (config : Config) (past : List Event) (st : State) (k : AllKept config 
   stage_is number unit found = found_each (StageKept config past) (λ (u : Unit). u.work.id == number) st.calling.units unit t.stages.each found
 
   -- a unit begins that was asked for and hasn't begun
-  begin_fits : (number : ℕ) (runs : Bool) (found : Option Unit) → unit_of st.calling number ≡ found → can_begin_unit st runs found ≡ true → fits_past config past (Begin number runs) ≡ true
+  begin_fits : (number : ℕ) (runs : Bool) (found : Option Unit) → unit_of st.calling number ≡ found
+      → can_begin_unit st runs found ≡ true → fits_past config past (Begin number runs) ≡ true
   unfolding fits_past
   begin_fits number runs None is can = absurd (cc)
   begin_fits number runs (Some unit) is can =
@@ -141,7 +146,8 @@ module _ (config : Config) (past : List Event) (st : State) (k : AllKept config 
       let unrefused : was_refused past number ≡ false = ap (was_refused past) (sym same) ∙ s.refused ∙ asked.2 in
       λ i. asker_goes number unit is may.going i && (not (unbegun i) && not (unrefused i))
     where
-      asked_facts : (stage : UnitState) → is_asked stage ≡ true → (states.is_lost stage ≡ false) × (reads_in stage ≡ false) × (is_refused stage ≡ false)
+      asked_facts : (stage : UnitState) → is_asked stage ≡ true
+          → (states.is_lost stage ≡ false) × (reads_in stage ≡ false) × (is_refused stage ≡ false)
       asked_facts Asked h = (refl, refl, refl)
       asked_facts Running h = absurd (cc)
       asked_facts (Refused at) h = absurd (cc)
@@ -149,7 +155,8 @@ module _ (config : Config) (past : List Event) (st : State) (k : AllKept config 
       asked_facts Ended h = absurd (cc)
 
   -- a unit that runs, of a call that goes on, reads on
-  running_reads : (number : ℕ) (unit : Unit) → unit_of st.calling number ≡ Some unit → goes_on past unit.work.call ≡ true → is_running unit.work.state ≡ true → reads_on past number ≡ true
+  running_reads : (number : ℕ) (unit : Unit) → unit_of st.calling number ≡ Some unit → goes_on past unit.work.call ≡ true
+      → is_running unit.work.state ≡ true → reads_on past number ≡ true
   running_reads number unit is on runs =
       let s = stage_is number unit is in
       let same = number_is number unit is in
@@ -158,7 +165,8 @@ module _ (config : Config) (past : List Event) (st : State) (k : AllKept config 
       let not_done : has_ended past number ≡ false = ap (has_ended past) (sym same) ∙ s.ended ∙ running.2 in
       λ i. (ap (asker_goes_on past) (asker_is number unit is) ∙ on) i && (begun i && not (not_done i))
     where
-      running_facts : (stage : UnitState) → is_running stage ≡ true → (states.is_lost stage ≡ false) × (reads_in stage ≡ true) × (states.is_ended stage ≡ false)
+      running_facts : (stage : UnitState) → is_running stage ≡ true
+          → (states.is_lost stage ≡ false) × (reads_in stage ≡ true) × (states.is_ended stage ≡ false)
       running_facts Asked h = absurd (cc)
       running_facts Running h = (refl, refl, refl)
       running_facts (Refused at) h = absurd (cc)
@@ -166,14 +174,16 @@ module _ (config : Config) (past : List Event) (st : State) (k : AllKept config 
       running_facts Ended h = absurd (cc)
 
   -- a unit ends that reads on
-  done_fits : (number : ℕ) (found : Option Unit) → unit_of st.calling number ≡ found → can_end_unit st found ≡ true → fits_past config past (Done number) ≡ true
+  done_fits : (number : ℕ) (found : Option Unit) → unit_of st.calling number ≡ found → can_end_unit st found ≡ true
+      → fits_past config past (Done number) ≡ true
   unfolding fits_past
   done_fits number None is can = absurd (cc)
   done_fits number (Some unit) is can =
       let may : MayEnd st unit = end_known st unit can in running_reads number unit is (call_goes unit.work.call may.going) may.running
 
   -- the call of a unit has the form that is told
-  form_is : (walk : Bool) (number : ℕ) (unit : Unit) → unit_of st.calling number ≡ Some unit → goes_on past unit.work.call ≡ true → walk ≡ asks_walk (request_of past unit.work.call)
+  form_is : (walk : Bool) (number : ℕ) (unit : Unit) → unit_of st.calling number ≡ Some unit → goes_on past unit.work.call ≡ true
+      → walk ≡ asks_walk (request_of past unit.work.call)
       → asker_has_form past walk (asker_of past number) ≡ true
   form_is walk number unit is on form = ap (asker_has_form past walk) (asker_is number unit is) ∙ by_invoke (invoke_of past unit.work.call) on form
     where
@@ -183,20 +193,24 @@ module _ (config : Config) (past : List Event) (st : State) (k : AllKept config 
       same_form true false e = absurd (cc)
       same_form false true e = absurd (cc)
 
-      by_invoke : (o : Option InvokeEvent) → (is_some o && is_none (outcome_in past unit.work.call)) ≡ true → walk ≡ asks_walk (option_map (λ (i : InvokeEvent). i.request) o) → has_form walk o ≡ true
+      by_invoke : (o : Option InvokeEvent) → (is_some o && is_none (outcome_in past unit.work.call)) ≡ true
+          → walk ≡ asks_walk (option_map (λ (i : InvokeEvent). i.request) o) → has_form walk o ≡ true
       by_invoke None on form = absurd (cc)
       by_invoke (Some i) on form = same_form walk (is_walk i.request) form
 
   -- a unit reads that reads on, for a call of the form
-  read_fits : (walk : Bool) (number : ℕ) (batch : Portion Entry) (found : Option Unit) → unit_of st.calling number ≡ found → can_read st walk batch found ≡ true → reads_for walk past number ≡ true
+  read_fits : (walk : Bool) (number : ℕ) (batch : Portion Entry) (found : Option Unit) → unit_of st.calling number ≡ found
+      → can_read st walk batch found ≡ true → reads_for walk past number ≡ true
   read_fits walk number batch None is can = absurd (cc)
   read_fits walk number batch (Some unit) is can =
       let may : MayRead st walk batch unit = read_known st walk batch unit can in
       let on = call_goes unit.work.call may.going in
-      λ i. running_reads number unit is on may.running i && form_is walk number unit is on (may.form ∙ walks_told past st unit.work.call k.links.calls) i
+      let form = may.form ∙ walks_told past st unit.work.call k.links.calls in
+      λ i. running_reads number unit is on may.running i && form_is walk number unit is on form i
 
   -- a batch is taken of a unit that reads on, for a walk
-  pub take_fits : (x : Taking) → AllByRecursion Flies st.calling.units → allowed st (Take x) ≡ true → fits_past config past (Take x) ≡ true
+  pub take_fits : (x : Taking) → AllByRecursion Flies st.calling.units → allowed st (Take x) ≡ true
+      → fits_past config past (Take x) ≡ true
   unfolding fits_past
   take_fits x flies may = let facts = take_facts st x may in by_facts facts.0 facts.1.0 facts.1.1.0 facts.1.1.1
     where
@@ -209,7 +223,8 @@ module _ (config : Config) (past : List Event) (st : State) (k : AllKept config 
           λ i. running_reads x.unit unit can.found on runs i && form_is true x.unit unit can.found on (sym walked) i
 
   -- the events of these kinds have their shape
-  pub begin_event_fits : (number : ℕ) (runs : Bool) → allowed st (Begin number runs) ≡ true → fits_past config past (Begin number runs) ≡ true
+  pub begin_event_fits : (number : ℕ) (runs : Bool) → allowed st (Begin number runs) ≡ true
+      → fits_past config past (Begin number runs) ≡ true
   unfolding can_begin
   begin_event_fits number runs may = begin_fits number runs (unit_of st.calling number) refl may
 
@@ -228,29 +243,35 @@ module _ (config : Config) (past : List Event) (st : State) (k : AllKept config 
   -- the asks of a round are numbered on
   asks_numbered : (originator n m : ℕ) (segments : List ℕ) → n ≡ m → are_numbered m (asks_from st.holding originator n segments) ≡ true
   asks_numbered originator n m [] same = refl
-  asks_numbered originator n m (segment ∷ segments) same = λ i. eq-eqb n m same i && asks_numbered originator (n + 1) (m + 1) segments (ap (λ x. x + 1) same) i
+  asks_numbered originator n m (segment ∷ segments) same =
+      λ i. eq-eqb n m same i && asks_numbered originator (n + 1) (m + 1) segments (ap (λ x. x + 1) same) i
 
   -- a round is made at its originator, which is live and has installed the topology of its number
-  at_originator : (id : ℕ) (call : Call) (o : Option InvokeEvent) → option_map (λ (i : InvokeEvent). i.node) o ≡ Some call.originator → lives st.holding.coord call.originator ≡ true
+  at_originator : (id : ℕ) (call : Call) (o : Option InvokeEvent) → option_map (λ (i : InvokeEvent). i.node) o ≡ Some call.originator
+      → lives st.holding.coord call.originator ≡ true
       → id ≡ installed_id st.holding.coord call.originator → is_at_originator config past id o ≡ true
   at_originator id call None e live at = absurd (cc)
   at_originator id call (Some invoke) e live at =
       let same : invoke.node ≡ call.originator = cc in
-      let live_told : is_live config past invoke.node ≡ true = ap (is_live config past) same ∙ sym (k.kept.told.live call.originator) ∙ live in
-      let id_told : installed_topology config past invoke.node ≡ id = ap (installed_topology config past) same ∙ sym (k.kept.told.installed call.originator live) ∙ sym at in
+      let live_told : is_live config past invoke.node ≡ true =
+      ap (is_live config past) same ∙ sym (k.kept.told.live call.originator) ∙ live in
+      let id_told : installed_topology config past invoke.node ≡ id =
+      ap (installed_topology config past) same ∙ sym (k.kept.told.installed call.originator live) ∙ sym at in
       λ i. live_told i && eq-eqb (installed_topology config past invoke.node) id id_told i
 
   pub round_fits : (r : RoundEvent) → UnitsTold past st → allowed st (Round r) ≡ true → fits_past config past (Round r) ≡ true
   unfolding fits_past
   round_fits r many may = let known : (call : Call) × RoundKnown st r call = round_known st r may in by_known known.0 known.1
     where
-      by_known : (call : Call) → RoundKnown st r call → (goes_on past r.call && (is_at_originator config past r.id (invoke_of past r.call) && are_numbered (units_asked past + 1) r.asks)) ≡ true
+      by_known : (call : Call) → RoundKnown st r call
+          → (goes_on past r.call && (is_at_originator config past r.id (invoke_of past r.call) && are_numbered (units_asked past + 1) r.asks)) ≡ true
       by_known call known =
           let goes = open_goes r.call call known.there known.unanswered in
           let at = at_originator r.id call (invoke_of past r.call) (told_of r.call call known.there).originator known.live known.id in
+          let first : length st.calling.units + 1 ≡ units_asked past + 1 = (let h : units_asked past ≡ length st.calling.units = many in omega (arith, h)) in
           let numbers : are_numbered (units_asked past + 1) r.asks ≡ true =
-              ap (are_numbered (units_asked past + 1)) known.asks
-              ∙ asks_numbered call.originator (length st.calling.units + 1) (units_asked past + 1) (incomplete st.calling r.call) (let h : units_asked past ≡ length st.calling.units = many in omega (arith, h)) in
+          ap (are_numbered (units_asked past + 1)) known.asks
+          ∙ asks_numbered call.originator (length st.calling.units + 1) (units_asked past + 1) (incomplete st.calling r.call) first in
           λ i. goes i && (at i && numbers i)
 
   -- an invocation is of a new call
@@ -264,7 +285,8 @@ module _ (config : Config) (past : List Event) (st : State) (k : AllKept config 
       let u = and_parts (is_up_to MOST_BATCH i.request.batch) (checks i.request.pipeline st.holding.config.values) s.1 in
       let new : is_none (invoke_of past i.call) ≡ true = none_told past i.call (call_of st.calling i.call) (k.links.calls i.call) ∙ q.0 in
       let live : is_live config past i.node ≡ true = sym (k.kept.told.live i.node) ∙ p.0 in
-      let checked : checks i.request.pipeline config.values ≡ true = ap (λ (c : Config). checks i.request.pipeline c.values) (sym k.kept.told.settings) ∙ u.1 in
+      let checked : checks i.request.pipeline config.values ≡ true =
+      ap (λ (c : Config). checks i.request.pipeline c.values) (sym k.kept.told.settings) ∙ u.1 in
       λ j. new j && (r.0 j && (live j && checked j))
 
   -- an answer is of a call that goes on, and suits its form
@@ -272,9 +294,12 @@ module _ (config : Config) (past : List Event) (st : State) (k : AllKept config 
   unfolding fits_past
   answer_fits a may = let facts : (call : Call) × CanAnswer st a call = answer_facts st a may in by_facts facts.0 facts.1
     where
-      by_invoke : (call : Call) → CanAnswer st a call → (o : Option InvokeEvent) → option_map (λ (i : InvokeEvent). i.request) o ≡ Some call.request → suits a.outcome o ≡ true
+      by_invoke : (call : Call) → CanAnswer st a call → (o : Option InvokeEvent)
+          → option_map (λ (i : InvokeEvent). i.request) o ≡ Some call.request → suits a.outcome o ≡ true
       by_invoke call can None e = absurd (cc)
-      by_invoke call can (Some invoke) e = let same : invoke.request ≡ call.request = cc in due_suits st a.call call a.outcome (due st a.call call a.outcome can.outcome) invoke same
+      by_invoke call can (Some invoke) e =
+          let same : invoke.request ≡ call.request = cc in
+          due_suits st a.call call a.outcome (due st a.call call a.outcome can.outcome) invoke same
 
       by_facts : (call : Call) → CanAnswer st a call → (goes_on past a.call && suits a.outcome (invoke_of past a.call)) ≡ true
       by_facts call can =

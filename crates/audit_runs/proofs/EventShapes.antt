@@ -14,7 +14,8 @@ use Rattle.audit_runs.proofs.CallShapes.{UnitsTold, answer_fits, begin_event_fit
 use Rattle.audit_runs.proofs.Flights.{Flies}
 use Rattle.audit_runs.proofs.StoreShapes.{announce_fits, depart_fits, install_fits, join_fits, tick_fits, write_fits}
 
-module _ (config : Config) (past : List Event) (st : State) (k : AllKept config past st) (t : IsTraced config past st) (few : FewMembers config past) (many : UnitsTold past st) (flies : AllByRecursion Flies st.calling.units) where
+module _ (config : Config) (past : List Event) (st : State) (k : AllKept config past st) (t : IsTraced config past st)
+    (few : FewMembers config past) (many : UnitsTold past st) (flies : AllByRecursion Flies st.calling.units) where
   -- an event that may happen fits its past
   pub event_fits : (event : Event) → allowed st event ≡ true → fits_past config past event ≡ true
   unfolding fits_past

@@ -50,10 +50,12 @@ flies_made (Round r) = flies_asked r r.asks
 flies_made _ = tt
 
 -- every event that may happen keeps it of all units
-pub flies_kept : (st : State) (event : Event) → allowed st event ≡ true → NumberedFrom 1 st.calling.units → AllByRecursion Flies st.calling.units
+pub flies_kept : (st : State) (event : Event) → allowed st event ≡ true → NumberedFrom 1 st.calling.units
+    → AllByRecursion Flies st.calling.units
     → AllByRecursion Flies (changed st event).calling.units
 flies_kept st event may numbered h =
     subst (AllByRecursion Flies) (sym (units_are st event))
     (each-append Flies (map (unit_after st event) st.calling.units) (units_made event)
-    (each_changed Flies (HasEffect st event) Flies (unit_after st event) (λ unit f e. flies_after st event unit (unit_after st event unit) e f) st.calling.units h (effects st event may numbered))
+    (each_changed Flies (HasEffect st event) Flies (unit_after st event)
+    (λ unit f e. flies_after st event unit (unit_after st event unit) e f) st.calling.units h (effects st event may numbered))
     (flies_made event))

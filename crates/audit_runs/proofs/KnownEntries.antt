@@ -45,16 +45,19 @@ AlwaysKnown config [] = ⊤
 AlwaysKnown config (event ∷ past) = MapKnown config (event ∷ past) × AlwaysKnown config past
 
 -- what is left of what is known is known, and so is what isn't left out
-left_known : (config : Config) (key : List ℕ) (b : Bool) (o : Option Stamped) → knows config key o ≡ true → knows config key (cond b o None) ≡ true
+left_known : (config : Config) (key : List ℕ) (b : Bool) (o : Option Stamped) → knows config key o ≡ true
+    → knows config key (cond b o None) ≡ true
 left_known config key true o h = h
 left_known config key false o h = refl
 
-kept_known : (config : Config) (key : List ℕ) (b : Bool) (o : Option Stamped) → knows config key o ≡ true → knows config key (cond b None o) ≡ true
+kept_known : (config : Config) (key : List ℕ) (b : Bool) (o : Option Stamped) → knows config key o ≡ true
+    → knows config key (cond b None o) ≡ true
 kept_known config key true o h = refl
 kept_known config key false o h = h
 
 -- what may be written is known
-pub write_known : (config : Config) (st : State) (w : WriteEvent) → st.holding.config ≡ config → allowed st (Write w) ≡ true → is_known config w.key w.value ≡ true
+pub write_known : (config : Config) (st : State) (w : WriteEvent) → st.holding.config ≡ config → allowed st (Write w) ≡ true
+    → is_known config w.key w.value ≡ true
 unfolding can_write
 write_known config st w settings may =
     let p = and_parts (can_change st.holding w.node w.key) _ may in
@@ -65,11 +68,13 @@ write_known config st w settings may =
     (ap (λ (c : Config). is_of_kind c.values w.value) (sym settings) ∙ kind)
 
 -- each event that may happen keeps it of the map
-map_known : (config : Config) (past : List Event) (st : State) (event : Event) → st.holding.config ≡ config → allowed st event ≡ true → MapKnown config past → MapKnown config (event ∷ past)
+map_known : (config : Config) (past : List Event) (st : State) (event : Event) → st.holding.config ≡ config → allowed st event ≡ true
+    → MapKnown config past → MapKnown config (event ∷ past)
 map_known config past st (Write w) settings may h key =
     ap (knows config key) (key_by_key.writes config past w key) ∙ by_key (same_key key w.key) refl
   where
-    by_key : (b : Bool) → same_key key w.key ≡ b → knows config key (cond b (Some (record { value = w.value; until = w.until })) (stands_at config past key)) ≡ true
+    by_key : (b : Bool) → same_key key w.key ≡ b
+        → knows config key (cond b (Some (record { value = w.value; until = w.until })) (stands_at config past key)) ≡ true
     by_key true e = ap (λ k. is_known config k w.value) (tied_keys key w.key e) ∙ write_known config st w settings may
     by_key false e = h key
 map_known config past st (Erase e) settings may h key =
@@ -88,24 +93,29 @@ now_known config [] h key = ap (knows config key) (key_by_key.first config key)
 now_known config (event ∷ past) h key = h.0 key
 
 -- each event that may happen keeps it of all places
-pub always_known : (config : Config) (past : List Event) (st : State) (event : Event) → st.holding.config ≡ config → allowed st event ≡ true → AlwaysKnown config past → AlwaysKnown config (event ∷ past)
+pub always_known : (config : Config) (past : List Event) (st : State) (event : Event) → st.holding.config ≡ config
+    → allowed st event ≡ true → AlwaysKnown config past → AlwaysKnown config (event ∷ past)
 always_known config past st event settings may h = (map_known config past st event settings may (now_known config past h), h)
 
 -- a value that is there is known
-value_known : (config : Config) (key : List ℕ) (datum : Datum) (o : Option Stamped) → option_map (λ (s : Stamped). s.value) o ≡ Some datum → knows config key o ≡ true → is_known config key datum ≡ true
+value_known : (config : Config) (key : List ℕ) (datum : Datum) (o : Option Stamped)
+    → option_map (λ (s : Stamped). s.value) o ≡ Some datum → knows config key o ≡ true → is_known config key datum ≡ true
 value_known config key datum None is h = absurd (cc)
 value_known config key datum (Some stamped) is h = let same : stamped.value ≡ datum = cc in ap (is_known config key) (sym same) ∙ h
 
 -- what stands now is known
-pub standing_known : (config : Config) (past : List Event) (key : List ℕ) (datum : Datum) → AlwaysKnown config past → value_at config past key ≡ Some datum → is_known config key datum ≡ true
+pub standing_known : (config : Config) (past : List Event) (key : List ℕ) (datum : Datum) → AlwaysKnown config past
+    → value_at config past key ≡ Some datum → is_known config key datum ≡ true
 standing_known config past key datum known is = value_known config key datum (stands_at config past key) is (now_known config past known key)
 
 -- what stood at some place since a call was made is known
-stood_known : (config : Config) (past : List Event) (call : ℕ) (key : List ℕ) (datum : Datum) → AlwaysKnown config past → StoodOnce config past call key datum → is_known config key datum ≡ true
+stood_known : (config : Config) (past : List Event) (call : ℕ) (key : List ℕ) (datum : Datum) → AlwaysKnown config past
+    → StoodOnce config past call key datum → is_known config key datum ≡ true
 stood_known config [] call key datum known stood = absurd stood
 stood_known config (event ∷ past) call key datum known stood = by_place stood (λ rest. stood_known config past call key datum known.1 rest)
   where
-    since_invoke : (b : Bool) → cond b ⊥ (StoodOnce config past call key datum) → (StoodOnce config past call key datum → is_known config key datum ≡ true) → is_known config key datum ≡ true
+    since_invoke : (b : Bool) → cond b ⊥ (StoodOnce config past call key datum)
+        → (StoodOnce config past call key datum → is_known config key datum ≡ true) → is_known config key datum ≡ true
     since_invoke true rest before = absurd rest
     since_invoke false rest before = before rest
 
@@ -122,7 +132,8 @@ span_known config past call known = by_answer (up_to_answer past call) refl
     up_to [] found is known = absurd (cc)
     up_to (event ∷ past) found is known = by_event (answers call event) is (λ rest. up_to past found rest known.1)
       where
-        by_event : (b : Bool) → cond b (Some (event ∷ past)) (up_to_answer past call) ≡ Some found → (up_to_answer past call ≡ Some found → AlwaysKnown config found) → AlwaysKnown config found
+        by_event : (b : Bool) → cond b (Some (event ∷ past)) (up_to_answer past call) ≡ Some found
+            → (up_to_answer past call ≡ Some found → AlwaysKnown config found) → AlwaysKnown config found
         by_event true is before = let same : event ∷ past ≡ found = cc in subst (AlwaysKnown config) same known
         by_event false is before = before is
 
@@ -131,5 +142,6 @@ span_known config past call known = by_answer (up_to_answer past call) refl
     by_answer (Some found) is = up_to past found is known
 
 -- what is held in a call is known
-pub held_known : (config : Config) (past : List Event) (call : ℕ) (key : List ℕ) (datum : Datum) → AlwaysKnown config past → Held config past call key datum → is_known config key datum ≡ true
+pub held_known : (config : Config) (past : List Event) (call : ℕ) (key : List ℕ) (datum : Datum) → AlwaysKnown config past
+    → Held config past call key datum → is_known config key datum ≡ true
 held_known config past call key datum known held = stood_known config (span_end past call) call key datum (span_known config past call known) held

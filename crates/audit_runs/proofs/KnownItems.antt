@@ -1,5 +1,5 @@
 -- The keys of the items that a pipeline makes of entries are keys of these entries.
-use Rattle.std.proofs.Common.{◌≡◌, ℕ, Bool, true, false, not, ◌&&◌, if◌then◌else◌, List, [], ◌∷◌, map, refl, ap, ◌∙◌}
+use Rattle.std.proofs.Common.{◌≡◌, ℕ, Bool, true, not, ◌&&◌, List, [], ◌∷◌, map, refl, ◌∙◌}
 use Rattle.std.proofs.lemmas.Bool.{and_from, and_parts}
 use Rattle.std.proofs.lemmas.List.Folds.{list_all-append}
 use Rattle.std.specs.List.{filter, flat_map, list_all}
@@ -21,15 +21,7 @@ use Rattle.pipeline_expr.specs.declared.pipeline.Pipeline.{Pipeline}
 use Rattle.pipeline_expr.specs.declared.spread.Spread.{Spread}
 use Rattle.pipeline_expr.specs.declared.spread.Spread.TheVariants.{Each, Words}
 use Rattle.audit_clauses.specs.Mentions.{entry_keys, key_in, keys_in, keys_listed}
-
--- what passes for each element passes for those that are left
-pub all_filter : {A : Type 0} (p test : A → Bool) (xs : List A) → list_all p xs ≡ true → list_all p (filter test xs) ≡ true
-all_filter p test [] h = refl
-all_filter p test (x ∷ xs) h = let q = and_parts (p x) (list_all p xs) h in by_test (test x) q.0 (all_filter p test xs q.1)
-  where
-    by_test : (b : Bool) → p x ≡ true → list_all p (filter test xs) ≡ true → list_all p (if b then x ∷ filter test xs else filter test xs) ≡ true
-    by_test true one rest = and_from (p x) (list_all p (filter test xs)) one rest
-    by_test false one rest = rest
+use Rattle.audit_runs.proofs.Lists.{all_filter, alone}
 
 module _ (p : List ℕ → Bool) where
   -- the key of an item passes, where it has one
@@ -75,7 +67,7 @@ module _ (p : List ℕ → Bool) where
   all_entries [] h = refl
   all_entries (e ∷ entries) h =
       let q = and_parts (p e.key) (list_all p (entry_keys entries)) h in
-      and_from (p e.key && true) (list_all passes (as_items entries)) (ap (λ b. b && true) q.0) (all_entries entries q.1)
+      and_from (p e.key && true) (list_all passes (as_items entries)) (alone (p e.key) q.0) (all_entries entries q.1)
 
   -- the keys of the items together
   all_keys : (xs : List Item) → list_all passes xs ≡ true → list_all p (keys_in xs) ≡ true
@@ -85,11 +77,13 @@ module _ (p : List ℕ → Bool) where
       list_all-append p (key_in x) (keys_in xs) ∙ and_from (passes x) (list_all p (keys_in xs)) q.0 (all_keys xs q.1)
 
   -- what passes for each key of some entries passes for each key that the answer of a pipeline over them lists
-  pub listed_pass : (pipeline : Pipeline) (entries : List Entry) → list_all p (entry_keys entries) ≡ true → list_all p (keys_listed (pipe pipeline entries)) ≡ true
+  pub listed_pass : (pipeline : Pipeline) (entries : List Entry) → list_all p (entry_keys entries) ≡ true
+      → list_all p (keys_listed (pipe pipeline entries)) ≡ true
   listed_pass pipeline entries h =
       by_end pipeline.end (all_keys (pipe_items pipeline entries) (all_ops pipeline.ops (as_items entries) (all_entries entries h)))
     where
-      by_end : (end : End) → list_all p (keys_in (pipe_items pipeline entries)) ≡ true → list_all p (keys_listed (pipe (record pipeline { end = end }) entries)) ≡ true
+      by_end : (end : End) → list_all p (keys_in (pipe_items pipeline entries)) ≡ true
+          → list_all p (keys_listed (pipe (record pipeline { end = end }) entries)) ≡ true
       by_end ends.Count h = refl
       by_end ends.Sum h = refl
       by_end ends.Min h = refl

@@ -1,3 +1,4 @@
+pub mod Lists
 pub mod Askers
 pub mod Flights
 pub mod KnownEntries

@@ -1,6 +1,6 @@
 -- In a run each key that an event names has a segment, and each value that it writes, copies or reads has the kind of the cluster's
 -- values.
-use Rattle.std.proofs.Common.{◌≡◌, ℕ, ◌==◌, Bool, true, false, ◌&&◌, if◌then◌else◌, List, [], ◌∷◌, ◌++◌, map, Option, None, Some, is_some, refl, sym, ap, subst, ◌∙◌}
+use Rattle.std.proofs.Common.{◌≡◌, ℕ, ◌==◌, Bool, true, false, if◌then◌else◌, List, [], ◌∷◌, ◌++◌, map, Option, None, Some, is_some, refl, sym, ap, subst, ◌∙◌}
 use Rattle.std.proofs.lemmas.Bool.{and_from, and_parts, eq-eqb}
 use Rattle.std.proofs.lemmas.List.Folds.{list_all-append}
 use Rattle.std.specs.List.{AllByRecursion, list_all}
@@ -24,8 +24,8 @@ use Rattle.grid_event.specs.declared.store_events.EraseEvent.{EraseEvent}
 use Rattle.state_transfer.specs.Chunks.{may_send, sent_of}
 use Rattle.topology_coord.specs.Coordination.{all_installed}
 use Rattle.topology_coord.specs.Following.{receives}
-use Rattle.cluster_model.specs.Evidence.{EachHeld, Held, evidence, given_in, is_unit_of, request_of, taken_in}
-use Rattle.cluster_model.specs.Rightness.{IsRight, RightOutcome}
+use Rattle.cluster_model.specs.Evidence.{EachHeld, Held, evidence, given_in, is_unit_of, taken_in}
+use Rattle.cluster_model.specs.Rightness.{IsRight, IsRightSoFar, RightOutcome}
 use Rattle.cluster_model.specs.State.{Call, State, Unit, unit_of}
 use Rattle.cluster_model.specs.Step.{allowed}
 use Rattle.cluster_model.specs.Told.{contents_of}
@@ -46,6 +46,7 @@ use Rattle.audit_clauses.specs.Mentions.{entry_keys, entry_values, key_in, keys_
 use Rattle.audit_clauses.specs.declared.clause.Clause.TheVariants as clauses
 use Rattle.audit_runs.proofs.KnownEntries.{AlwaysKnown, has_segment, held_known, is_known, standing_known, write_known}
 use Rattle.audit_runs.proofs.KnownItems.{listed_pass}
+use Rattle.audit_runs.proofs.Lists.{alone, each_second}
 
 -- what is known of an entry: its key has a segment, and its value has the kind
 abbrev Known : Config → Entry → Type 0
@@ -56,7 +57,8 @@ abbrev AreKnown : Config → List (List ℕ) → List Datum → Type 0
 AreKnown config keys values = (list_all (has_segment config) keys ≡ true) × (list_all (is_of_kind config.values) values ≡ true)
 
 -- the keys and values of entries that are known
-entries_known : (config : Config) (entries : List Entry) → AllByRecursion (Known config) entries → AreKnown config (entry_keys entries) (entry_values entries)
+entries_known : (config : Config) (entries : List Entry) → AllByRecursion (Known config) entries
+    → AreKnown config (entry_keys entries) (entry_values entries)
 entries_known config [] h = (refl, refl)
 entries_known config (e ∷ entries) h =
     let p = and_parts (has_segment config e.key) (is_of_kind config.values e.value) h.0 in
@@ -76,30 +78,23 @@ chunk_known config (e ∷ chunk) h =
       and_from (is_of_kind config.values e.stamped.value) (list_all (is_of_kind config.values) (map (λ (e : StampedEntry). e.stamped.value) chunk)) p.1 rest.1,
     )
 
--- what holds of each of two lists together holds of each of the second
-each_second : {A : Type 0} (P : A → Type 0) (xs ys : List A) → AllByRecursion P (xs ++ ys) → AllByRecursion P ys
-each_second P [] ys h = h
-each_second P (x ∷ xs) ys h = each_second P xs ys h.1
-
 -- what passes for each key of items passes for each key of the later ones
 later_pass : (p : List ℕ → Bool) (xs ys : List Item) → list_all p (keys_in (xs ++ ys)) ≡ true → list_all p (keys_in ys) ≡ true
 later_pass p [] ys h = h
 later_pass p (x ∷ xs) ys h =
     later_pass p xs ys (and_parts (list_all p (key_in x)) (list_all p (keys_in (xs ++ ys))) (sym (list_all-append p (key_in x) (keys_in (xs ++ ys))) ∙ h)).1
 
--- one that passes alone
-alone : (b : Bool) → b ≡ true → (b && true) ≡ true
-alone b h = ap (λ a. a && true) h
-
 -- ---- what is read and copied stands
 
 module _ (config : Config) (past : List Event) (st : State) (k : AllKept config past st) (known : AlwaysKnown config past) where
   -- entries that stand are known
-  standing : (segment : ℕ) (entries : List Entry) → AllByRecursion (FitsNow config past segment) entries → AllByRecursion (Known config) entries
+  standing : (segment : ℕ) (entries : List Entry) → AllByRecursion (FitsNow config past segment) entries
+      → AllByRecursion (Known config) entries
   standing segment entries fit = each_imply (FitsNow config past segment) (Known config) (λ e f. standing_known config past e.key e.value known f.1) entries fit
 
   -- what a unit reads is known
-  read_entries : (walk : Bool) (number : ℕ) (batch : Portion Entry) (found : Option Unit) → unit_of st.calling number ≡ found → can_read st walk batch found ≡ true
+  read_entries : (walk : Bool) (number : ℕ) (batch : Portion Entry) (found : Option Unit) → unit_of st.calling number ≡ found
+      → can_read st walk batch found ≡ true
       → AreKnown config (entry_keys batch.entries) (entry_values batch.entries)
   read_entries walk number batch None is can = absurd (cc)
   read_entries walk number batch (Some unit) is can =
@@ -129,46 +124,80 @@ module _ (config : Config) (past : List Event) (st : State) (k : AllKept config 
 
 module _ (config : Config) (past : List Event) (st : State) (k : AllKept config past st) where
   -- entries that are held are known
-  held_entries : (later : List Event) (call : ℕ) (entries : List Entry) → AlwaysKnown config later → EachHeld config later call entries → AllByRecursion (Known config) entries
+  held_entries : (later : List Event) (call : ℕ) (entries : List Entry) → AlwaysKnown config later → EachHeld config later call entries
+      → AllByRecursion (Known config) entries
   held_entries later call entries known held =
-      each_imply (λ (e : Entry). Held config later call e.key e.value) (Known config) (λ e h. held_known config later call e.key e.value known h) entries held
+      each_imply (λ (e : Entry). Held config later call e.key e.value) (Known config)
+      (λ e h. held_known config later call e.key e.value known h) entries held
 
-  -- the entries that are taken, and the items given
-  taken_entries_known : (t : Taking) → AlwaysKnown config (Take t ∷ past) → ((call : ℕ) → IsRight config (Take t ∷ past) call) → allowed st (Take t) ≡ true
-      → (list_all (has_segment config) (entry_keys t.entries ++ keys_in t.given) ≡ true) × (list_all (is_of_kind config.values) (entry_values t.entries) ≡ true)
-  taken_entries_known t known right may = let facts = take_facts st t may in by_facts facts.0 facts.1.0 facts.1.1.0 facts.1.1.1
+  -- where what a call took and gave with a take is right, the entries taken and the items given are known
+  right_take : (t : Taking) (call : ℕ) (request : Request) → is_unit_of past call t.unit ≡ true → AlwaysKnown config (Take t ∷ past)
+      → IsRightSoFar config (Take t ∷ past) call request
+      → AreKnown config (entry_keys t.entries ++ keys_in t.given) (entry_values t.entries)
+  right_take t call request mine known right = (
+    list_all-append (has_segment config) (entry_keys t.entries) (keys_in t.given)
+        ∙ and_from (list_all (has_segment config) (entry_keys t.entries)) (list_all (has_segment config) (keys_in t.given)) entries.0 items,
+    entries.1,
+  )
+    where
+      with_take : {A : Type 0} (before more : List A)
+          → (if is_unit_of past call t.unit then before ++ more else before) ≡ before ++ more
+      with_take before more = ap (λ b. if b then before ++ more else before) mine
+
+      all : AllByRecursion (Known config) (taken_in (Take t ∷ past) call)
+      all = held_entries (Take t ∷ past) call (taken_in (Take t ∷ past) call) known right.held
+
+      entries : AreKnown config (entry_keys t.entries) (entry_values t.entries)
+      entries =
+          entries_known config t.entries
+          (each_second (Known config) (taken_in past call) t.entries
+          (subst (AllByRecursion (Known config)) (with_take (taken_in past call) t.entries) all))
+
+      given : list_all (has_segment config) (keys_in (given_in (Take t ∷ past) call)) ≡ true
+      given =
+          ap (λ answer. list_all (has_segment config) (keys_listed answer)) right.plain
+          ∙ listed_pass (has_segment config) request.pipeline (taken_in (Take t ∷ past) call)
+          (entries_known config (taken_in (Take t ∷ past) call) all).0
+
+      items : list_all (has_segment config) (keys_in t.given) ≡ true
+      items =
+          later_pass (has_segment config) (given_in past call) t.given
+          (ap (λ xs. list_all (has_segment config) (keys_in xs)) (sym (with_take (given_in past call) t.given)) ∙ given)
+
+  -- so it is with each take that may happen
+  taken_known : (t : Taking) → AlwaysKnown config (Take t ∷ past) → ((call : ℕ) → IsRight config (Take t ∷ past) call)
+      → allowed st (Take t) ≡ true → AreKnown config (entry_keys t.entries ++ keys_in t.given) (entry_values t.entries)
+  taken_known t known right may = let facts = take_facts st t may in by_facts facts.0 facts.1.0 facts.1.1.0 facts.1.1.1
     where
       by_facts : (unit : Unit) (call : Call) (batch : List Entry) → CanTake st t unit call batch
-          → (list_all (has_segment config) (entry_keys t.entries ++ keys_in t.given) ≡ true) × (list_all (is_of_kind config.values) (entry_values t.entries) ≡ true)
+          → AreKnown config (entry_keys t.entries ++ keys_in t.given) (entry_values t.entries)
       by_facts unit call batch can =
-          let mine : is_unit_of past unit.work.call t.unit ≡ true = unit_told past st unit.work.call t.unit unit k.units.numbered k.links.asks can.found ∙ eq-eqb unit.work.call unit.work.call refl in
-          let asked : request_of past unit.work.call ≡ Some call.request = request_told past st unit.work.call call k.links.calls can.there in
-          let so_far = ((right unit.work.call).takes call.request asked).0 mine in
-          let taken : taken_in (Take t ∷ past) unit.work.call ≡ taken_in past unit.work.call ++ t.entries = ap (λ b. if b then taken_in past unit.work.call ++ t.entries else taken_in past unit.work.call) mine in
-          let given : given_in (Take t ∷ past) unit.work.call ≡ given_in past unit.work.call ++ t.given = ap (λ b. if b then given_in past unit.work.call ++ t.given else given_in past unit.work.call) mine in
-          let all = held_entries (Take t ∷ past) unit.work.call (taken_in (Take t ∷ past) unit.work.call) known so_far.held in
-          let entries = entries_known config t.entries (each_second (Known config) (taken_in past unit.work.call) t.entries (subst (AllByRecursion (Known config)) taken all)) in
-          let listed = listed_pass (has_segment config) call.request.pipeline (taken_in (Take t ∷ past) unit.work.call) (entries_known config (taken_in (Take t ∷ past) unit.work.call) all).0 in
-          let items : list_all (has_segment config) (keys_in (given_in (Take t ∷ past) unit.work.call)) ≡ true = ap (λ answer. list_all (has_segment config) (keys_listed answer)) so_far.plain ∙ listed in
-          let later = later_pass (has_segment config) (given_in past unit.work.call) t.given (ap (λ xs. list_all (has_segment config) (keys_in xs)) (sym given) ∙ items) in
-          (list_all-append (has_segment config) (entry_keys t.entries) (keys_in t.given) ∙ and_from (list_all (has_segment config) (entry_keys t.entries)) (list_all (has_segment config) (keys_in t.given)) entries.0 later, entries.1)
+          let of_call = unit_told past st unit.work.call t.unit unit k.units.numbered k.links.asks can.found in
+          let mine : is_unit_of past unit.work.call t.unit ≡ true = of_call ∙ eq-eqb unit.work.call unit.work.call refl in
+          let asked = request_told past st unit.work.call call k.links.calls can.there in
+          right_take t unit.work.call call.request mine known (((right unit.work.call).takes call.request asked).0 mine)
 
-  -- the items that an answer lists
-  answer_keys : (a : AnswerEvent) → AlwaysKnown config (Answer a ∷ past) → ((call : ℕ) → IsRight config (Answer a ∷ past) call) → allowed st (Answer a) ≡ true
-      → list_all (has_segment config) (keys_of a.outcome) ≡ true
-  answer_keys a known right may = let facts : (call : Call) × CanAnswer st a call = answer_facts st a may in by_facts facts.0 facts.1
+  -- where an outcome is right, the items that it lists are known
+  right_outcome : (later : List Event) (call : ℕ) (request : Request) (outcome : Outcome) → AlwaysKnown config later
+      → RightOutcome config later call request outcome → list_all (has_segment config) (keys_of outcome) ≡ true
+  right_outcome later call request (outcomes.Value answer) known right =
+      let held : EachHeld config later call (evidence config later call) = guarantees.each request.guarantee config later call right.keeps clauses.Held in
+      let all = entries_known config (evidence config later call) (held_entries later call (evidence config later call) known held) in
+      ap (λ answer. list_all (has_segment config) (keys_listed answer)) right.plain
+      ∙ listed_pass (has_segment config) request.pipeline (evidence config later call) all.0
+  right_outcome later call request _ known right = refl
+
+  -- so it is with each answer that may be given
+  answer_keys : (a : AnswerEvent) → AlwaysKnown config (Answer a ∷ past) → ((call : ℕ) → IsRight config (Answer a ∷ past) call)
+      → allowed st (Answer a) ≡ true → list_all (has_segment config) (keys_of a.outcome) ≡ true
+  answer_keys a known right may =
+      let facts : (call : Call) × CanAnswer st a call = answer_facts st a may in
+      let asked = request_told past st a.call facts.0 k.links.calls facts.1.there in
+      right_outcome (Answer a ∷ past) a.call facts.0.request a.outcome known
+      ((right a.call).outcome facts.0.request a.outcome asked said)
     where
-      by_outcome : (request : Request) (outcome : Outcome) → RightOutcome config (Answer a ∷ past) a.call request outcome → list_all (has_segment config) (keys_of outcome) ≡ true
-      by_outcome request (outcomes.Value answer) h =
-          let held : EachHeld config (Answer a ∷ past) a.call (evidence config (Answer a ∷ past) a.call) = guarantees.each request.guarantee config (Answer a ∷ past) a.call h.keeps clauses.Held in
-          let all = entries_known config (evidence config (Answer a ∷ past) a.call) (held_entries (Answer a ∷ past) a.call (evidence config (Answer a ∷ past) a.call) known held) in
-          ap (λ answer. list_all (has_segment config) (keys_listed answer)) h.plain ∙ listed_pass (has_segment config) request.pipeline (evidence config (Answer a ∷ past) a.call) all.0
-      by_outcome request _ h = refl
-
-      by_facts : (call : Call) → CanAnswer st a call → list_all (has_segment config) (keys_of a.outcome) ≡ true
-      by_facts call can =
-          let said : outcome_in (Answer a ∷ past) a.call ≡ Some a.outcome = ap (λ b. if b then Some a.outcome else outcome_in past a.call) (eq-eqb a.call a.call refl) in
-          by_outcome call.request a.outcome ((right a.call).outcome call.request a.outcome (request_told past st a.call call k.links.calls can.there) said)
+      said : outcome_in (Answer a ∷ past) a.call ≡ Some a.outcome
+      said = ap (λ b. if b then Some a.outcome else outcome_in past a.call) (eq-eqb a.call a.call refl)
 
   -- the key of an erasure
   erased_key : (e : EraseEvent) → allowed st (Erase e) ≡ true → has_segment config e.key ≡ true
@@ -178,16 +207,17 @@ module _ (config : Config) (past : List Event) (st : State) (k : AllKept config 
       ap (λ (c : Config). has_segment c e.key) (sym k.kept.told.settings) ∙ ap is_some found.1.has_segment
 
   -- all keys and values that an event names
-  pub entries_are_known : (event : Event) → AlwaysKnown config past → AlwaysKnown config (event ∷ past) → ((call : ℕ) → IsRight config (event ∷ past) call) → allowed st event ≡ true
+  pub entries_are_known : (event : Event) → AlwaysKnown config past → AlwaysKnown config (event ∷ past)
+      → ((call : ℕ) → IsRight config (event ∷ past) call) → allowed st event ≡ true
       → AreKnown config (keys_named event) (values_named event)
   unfolding keys_named values_named can_scan can_fetch
-  entries_are_known (Write w) before after right may =
+  entries_are_known (Write w) before later right may =
       let p = and_parts (has_segment config w.key) (is_of_kind config.values w.value) (write_known config st w k.kept.told.settings may) in
       (alone (has_segment config w.key) p.0, alone (is_of_kind config.values w.value) p.1)
-  entries_are_known (Erase e) before after right may = (alone (has_segment config e.key) (erased_key e may), refl)
-  entries_are_known (Copy c) before after right may = copied_entries config past st k before c may
-  entries_are_known (Scan s) before after right may = read_entries config past st k before false s.unit s.batch (unit_of st.calling s.unit) refl may
-  entries_are_known (Fetch f) before after right may = read_entries config past st k before true f.unit f.batch (unit_of st.calling f.unit) refl may
-  entries_are_known (Take t) before after right may = taken_entries_known t after right may
-  entries_are_known (Answer a) before after right may = (answer_keys a after right may, refl)
-  entries_are_known _ before after right may = (refl, refl)
+  entries_are_known (Erase e) before later right may = (alone (has_segment config e.key) (erased_key e may), refl)
+  entries_are_known (Copy c) before later right may = copied_entries config past st k before c may
+  entries_are_known (Scan s) before later right may = read_entries config past st k before false s.unit s.batch (unit_of st.calling s.unit) refl may
+  entries_are_known (Fetch f) before later right may = read_entries config past st k before true f.unit f.batch (unit_of st.calling f.unit) refl may
+  entries_are_known (Take t) before later right may = taken_known t later right may
+  entries_are_known (Answer a) before later right may = (answer_keys a later right may, refl)
+  entries_are_known _ before later right may = (refl, refl)

@@ -1,6 +1,6 @@
 -- In a run each node that an event names is below 16, and each segment one of the cluster's.
-use Rattle.std.proofs.Common.{inl, inr, ◌≡◌, ℕ, suc, ◌+◌, ◌==◌, nat_lt, Bool, true, not, ◌&&◌, List, [], ◌∷◌, ◌++◌, map, length, refl, sym, ap, subst, ◌∙◌, arith}
-use Rattle.std.proofs.lemmas.Bool.{and_from, and_parts, eq-eqb, lt-ltb, or_left, or_right}
+use Rattle.std.proofs.Common.{inl, inr, ◌≡◌, ℕ, suc, ◌+◌, nat_lt, Bool, true, not, ◌&&◌, List, [], ◌∷◌, ◌++◌, map, length, refl, sym, ap, subst, ◌∙◌, arith}
+use Rattle.std.proofs.lemmas.Bool.{and_from, and_parts, lt-ltb}
 use Rattle.std.proofs.lemmas.List.Folds.{list_all-append}
 use Rattle.std.specs.FinSet as set_of
 use Rattle.std.specs.List.{list_all}
@@ -33,33 +33,25 @@ use Rattle.cluster_laws.proofs.units.StageNotes.{AllNotes}
 use Rattle.cluster_laws.proofs.units.UnitPlaces.{AllPlaced, asked_placed}
 use Rattle.audit_clauses.specs.Mentions.{nodes_named, owners_in, segments_named}
 use Rattle.audit_runs.proofs.DueOutcomes.{due, due_segments}
-use Rattle.audit_runs.proofs.KnownItems.{all_filter}
+use Rattle.audit_runs.proofs.Lists.{all_among, all_filter, alone}
 
--- ---- lists
-
--- what passes for each number of a list passes for all
-all_among : (p : ℕ → Bool) (xs : List ℕ) → ((n : ℕ) → among n xs ≡ true → p n ≡ true) → list_all p xs ≡ true
-all_among p [] h = refl
-all_among p (x ∷ xs) h =
-    and_from (p x) (list_all p xs) (h x (or_left (x == x) (among x xs) (eq-eqb x x refl))) (all_among p xs (λ n there. h n (or_right (x == n) (among n xs) there)))
-
--- and what passes for each owner by a hash passes for all
-all_owners : (p : ℕ → Bool) (hash : Hash) → ((n s : ℕ) → among n (owners_at hash s) ≡ true → p n ≡ true) → list_all p (owners_in hash) ≡ true
+-- what is true of each owner by a hash is true of all
+all_owners : (p : ℕ → Bool) (hash : Hash) → ((n s : ℕ) → among n (owners_at hash s) ≡ true → p n ≡ true)
+    → list_all p (owners_in hash) ≡ true
 all_owners p [] h = refl
 all_owners p (owners ∷ hash) h =
     list_all-append p owners (owners_in hash)
-    ∙ and_from (list_all p owners) (list_all p (owners_in hash)) (all_among p owners (λ n there. h n 0 there)) (all_owners p hash (λ n s there. h n (suc s) there))
+    ∙ and_from (list_all p owners) (list_all p (owners_in hash)) (all_among p owners (λ n there. h n 0 there))
+    (all_owners p hash (λ n s there. h n (suc s) there))
 
--- the asks for segments are for these
-asked_segments : (p : ℕ → Bool) (st : State) (originator n : ℕ) (segments : List ℕ) → list_all p segments ≡ true → list_all p (map (λ (ask : Ask). ask.segment) (asks_from st.holding originator n segments)) ≡ true
+-- the asks for some segments are for these
+asked_segments : (p : ℕ → Bool) (st : State) (originator n : ℕ) (segments : List ℕ) → list_all p segments ≡ true
+    → list_all p (map (λ (ask : Ask). ask.segment) (asks_from st.holding originator n segments)) ≡ true
 asked_segments p st originator n [] h = refl
 asked_segments p st originator n (segment ∷ segments) h =
     let q = and_parts (p segment) (list_all p segments) h in
-    and_from (p segment) (list_all p (map (λ (ask : Ask). ask.segment) (asks_from st.holding originator (n + 1) segments))) q.0 (asked_segments p st originator (n + 1) segments q.1)
-
--- one that passes alone
-alone : (b : Bool) → b ≡ true → (b && true) ≡ true
-alone b h = ap (λ a. a && true) h
+    and_from (p segment) (list_all p (map (λ (ask : Ask). ask.segment) (asks_from st.holding originator (n + 1) segments))) q.0
+    (asked_segments p st originator (n + 1) segments q.1)
 
 -- ---- nodes
 
@@ -73,7 +65,8 @@ module _ (config : Config) (past : List Event) (st : State) (k : IsKept config p
   live_small node live = lt-ltb node 16 (few node (sym (k.told.member node) ∙ k.parts.topologies.member node live))
 
   -- so are the nodes that a topology names which may be announced
-  announced_small : (t : Topology) → allowed st (Announce t) ≡ true → list_all small (owners_in t.current ++ owners_in t.pending) ≡ true
+  announced_small : (t : Topology) → allowed st (Announce t) ≡ true
+      → list_all small (owners_in t.current ++ owners_in t.pending) ≡ true
   unfolding announced announces
   announced_small t may =
       list_all-append small (owners_in t.current) (owners_in t.pending)
@@ -87,7 +80,8 @@ module _ (config : Config) (past : List Event) (st : State) (k : IsKept config p
       named n s names = lt-ltb n 16 (few n (sym (later.told.member n) ∙ later.parts.topologies.named n s names))
 
   -- and the nodes that a round asks
-  asked_small : (call id : ℕ) (asks : List Ask) → AllPlaced st.holding.coord (map (unit_made call id) asks) → list_all small (map (λ (ask : Ask). ask.node) asks) ≡ true
+  asked_small : (call id : ℕ) (asks : List Ask) → AllPlaced st.holding.coord (map (unit_made call id) asks)
+      → list_all small (map (λ (ask : Ask). ask.node) asks) ≡ true
   asked_small call id [] placed = refl
   asked_small call id (ask ∷ asks) placed =
       and_from (small ask.node) (list_all small (map (λ (ask : Ask). ask.node) asks)) (live_small ask.node (placed.0.live refl)) (asked_small call id asks placed.1)
@@ -104,7 +98,9 @@ module _ (config : Config) (past : List Event) (st : State) (k : IsKept config p
   -- each node that an event names
   pub nodes_known : (event : Event) → allowed st event ≡ true → list_all small (nodes_named event) ≡ true
   unfolding nodes_named can_write can_erase can_join can_depart can_install can_invoke
-  nodes_known (Write w) may = alone (small w.node) (live_small w.node (and_parts (lives st.holding.coord w.node) _ (and_parts (can_change st.holding w.node w.key) _ may).0).0)
+  nodes_known (Write w) may =
+      let p = and_parts (can_change st.holding w.node w.key) _ may in
+      alone (small w.node) (live_small w.node (and_parts (lives st.holding.coord w.node) _ p.0).0)
   nodes_known (Erase e) may = alone (small e.node) (live_small e.node (and_parts (lives st.holding.coord e.node) _ may).0)
   nodes_known (Join node) may = alone (small node) (and_parts (not (set_of.contains st.holding.coord.ever node)) (nat_lt node MOST_NODES) may).1
   nodes_known (Depart node) may = alone (small node) (live_small node (and_parts (lives st.holding.coord node) _ may).0)
@@ -135,13 +131,15 @@ module _ (config : Config) (past : List Event) (st : State) (k : IsKept config p
       lt-ltb segment config.segments (omega (arith, below, long))
 
   -- so is one that a transfer leads to its receiver
-  received_inside : (receiver segment : ℕ) → (length st.holding.coord.newest.pending ≡ length st.holding.coord.newest.current) → among receiver (owners_at st.holding.coord.newest.pending segment) ≡ true → within segment ≡ true
+  received_inside : (receiver segment : ℕ) → (length st.holding.coord.newest.pending ≡ length st.holding.coord.newest.current)
+      → among receiver (owners_at st.holding.coord.newest.pending segment) ≡ true → within segment ≡ true
   received_inside receiver segment same owns =
       let below = owned_within st.holding.coord.newest.pending segment receiver owns in
       let long : length st.holding.coord.newest.current ≡ config.segments = k.parts.topologies.all_segments in
       lt-ltb segment config.segments (omega (arith, below, long, same))
 
-  landed_inside : (receiver segment : ℕ) (transfer : _) → IsSound st.holding.coord st.holding.copying.cells (contents_of config past) receiver segment transfer → within segment ≡ true
+  landed_inside : (receiver segment : ℕ) (transfer : _)
+      → IsSound st.holding.coord st.holding.copying.cells (contents_of config past) receiver segment transfer → within segment ≡ true
   landed_inside receiver segment transfer sound =
       received_inside receiver segment
       (elim k.parts.topologies.owned.same_length [
@@ -158,12 +156,15 @@ module _ (config : Config) (past : List Event) (st : State) (k : IsKept config p
           ap (λ asks. list_all within (map (λ (ask : Ask). ask.segment) asks)) known.asks
           ∙ asked_segments within st call.originator (length st.calling.units + 1) (incomplete st.calling r.call)
           (all_filter within (λ segment. not (is_complete st.calling.units r.call segment)) (segments_read st.calling)
-          (all_among within (segments_read st.calling) (λ segment there. lt-ltb segment config.segments (let below = row_below 0 st.calling.segments segment there in let many = k.told.segments in omega (arith, below, many)))))
+          (all_among within (segments_read st.calling) (λ segment there.
+          (let below = row_below 0 st.calling.segments segment there in let many = k.told.segments in lt-ltb segment config.segments (omega (arith, below, many))))))
 
   -- each segment that an event names
   pub segments_known : (event : Event) → allowed st event ≡ true → list_all within (segments_named event) ≡ true
   unfolding segments_named
-  segments_known (Copy c) may = alone (within c.segment) (owned_inside c.provider c.segment (may_copy config.segments st (contents_of config past) c k.parts may).provides.1)
+  segments_known (Copy c) may =
+      let sends = may_copy config.segments st (contents_of config past) c k.parts may in
+      alone (within c.segment) (owned_inside c.provider c.segment sends.provides.1)
   segments_known (Land receiver segment) may =
       let there = may_land st receiver segment may in
       alone (within segment) (landed_inside receiver segment there.0 (k.parts.transfers receiver segment there.0 there.1))

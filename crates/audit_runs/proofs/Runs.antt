@@ -33,7 +33,8 @@ record IsAudited (config : Config) (past : List Event) (st : State) : Type 0 whe
   known : AlwaysKnown config past
 
 -- each event that may happen keeps it
-audited_on : (config : Config) → is_config config ≡ true → (past : List Event) (st : State) (event : Event) → allowed st event ≡ true → IsAudited config past st → IsAudited config (event ∷ past) (changed st event)
+audited_on : (config : Config) → is_config config ≡ true → (past : List Event) (st : State) (event : Event) → allowed st event ≡ true
+    → IsAudited config past st → IsAudited config (event ∷ past) (changed st event)
 audited_on config good past st event may h = record {
   right = run_right config past st (event ∷ []) good (ap (λ b. b && true) may) h.right;
   reasoned = reasoned_on config (few_segments config good) past st h.reasoned event may;
@@ -43,7 +44,8 @@ audited_on config good past st event may h = record {
 }
 
 -- in every run from the start
-always_audited : (config : Config) (events : List Event) → is_config config ≡ true → runs (start config) events ≡ true → IsAudited config (reverse events) (state (start config) events)
+always_audited : (config : Config) (events : List Event) → is_config config ≡ true → runs (start config) events ≡ true
+    → IsAudited config (reverse events) (state (start config) events)
 always_audited config events good is =
     along (IsAudited config) (audited_on config good) [] (start config) events is
     (record { right = always_right config [] good refl; reasoned = reasoned_start config good; units = refl; flies = tt; known = tt })
@@ -56,7 +58,8 @@ right_of config past st h call = record {
 }
 
 -- all clauses hold of an event that may happen
-all_hold : (config : Config) → is_config config ≡ true → (past : List Event) (st : State) (event : Event) → allowed st event ≡ true → IsAudited config past st → (which : Clause) → Holds which config past event
+all_hold : (config : Config) → is_config config ≡ true → (past : List Event) (st : State) (event : Event) → allowed st event ≡ true
+    → IsAudited config past st → (which : Clause) → Holds which config past event
 all_hold config good past st event may h = event_holds config past event shape right later.reasoned.causes
   where
     later : IsAudited config (event ∷ past) (changed st event)
@@ -78,7 +81,8 @@ all_hold config good past st event may h = event_holds config past event shape r
         λ i. named i && fits i
 
 -- the front of a run is one, and the event behind it may happen there
-run_parts : (st : State) (before : List Event) (event : Event) (later : List Event) → runs st (before ++ event ∷ later) ≡ true → (runs st before ≡ true) × (allowed (state st before) event ≡ true)
+run_parts : (st : State) (before : List Event) (event : Event) (later : List Event) → runs st (before ++ event ∷ later) ≡ true
+    → (runs st before ≡ true) × (allowed (state st before) event ≡ true)
 run_parts st [] event later h = (refl, (and_parts (allowed st event) (runs (changed st event) later) h).0)
 run_parts st (first ∷ before) event later h =
     let p = and_parts (allowed st first) (runs (changed st first) (before ++ event ∷ later)) h in

@@ -53,7 +53,8 @@ record Pair (test : ℕ → Bool) : Type 0 where
   less : low < high
 
 -- a map with more than one key has two
-two_keys : (es : List (ℕ × ℕ)) → T (map_of.is_sorted nat_cmp es) → 1 < length (map (λ e. e.0) es) → Pair (λ n. among n (map (λ e. e.0) es))
+two_keys : (es : List (ℕ × ℕ)) → T (map_of.is_sorted nat_cmp es) → 1 < length (map (λ e. e.0) es)
+    → Pair (λ n. among n (map (λ e. e.0) es))
 two_keys [] sorted h = absurd (omega arith)
 two_keys (x ∷ []) sorted h = absurd (omega arith)
 two_keys (x ∷ y ∷ es) sorted h = record {
@@ -104,16 +105,17 @@ module _ (config : Config) (past : List Event) (st : State) (k : IsKept config p
   unfolding can_install fits_past
   install_fits node id may =
       (λ i. sym (told.live node) i && (id == (sym told.newest i).id))
-      ∙ short (lives st.holding.coord node) (not (installed_id st.holding.coord node == st.holding.coord.newest.id)) (id == st.holding.coord.newest.id) may
+      ∙ outer (lives st.holding.coord node) (not (installed_id st.holding.coord node == st.holding.coord.newest.id))
+      (id == st.holding.coord.newest.id) may
     where
-      short : (a b c : Bool) → (a && (b && c)) ≡ true → (a && c) ≡ true
-      short true true c h = h
-      short true false c h = absurd (cc)
-      short false b c h = h
+      outer : (a b c : Bool) → (a && (b && c)) ≡ true → (a && c) ≡ true
+      outer true true c h = h
+      outer true false c h = absurd (cc)
+      outer false b c h = h
 
   -- a live node is one of the live members
-  member_there : FewMembers config past → (n : ℕ) → among n (live_nodes st.holding.coord) ≡ true → among n (live_members config past) ≡ true
-
+  member_there : FewMembers config past → (n : ℕ) → among n (live_nodes st.holding.coord) ≡ true
+      → among n (live_members config past) ≡ true
   member_there few n h =
       let live : lives st.holding.coord n ≡ true = sym (among-live st.holding.coord n) ∙ h in
       let small : n < 16 = few n (sym (told.member n) ∙ k.parts.topologies.member n live) in
@@ -125,8 +127,11 @@ module _ (config : Config) (past : List Event) (st : State) (k : IsKept config p
   unfolding can_depart fits_past
   depart_fits few node may =
       let p = and_parts (lives st.holding.coord node) (nat_lt 1 (length (live_nodes st.holding.coord))) may in
-      let two = two_keys (map_of.entries st.holding.coord.installed) (map_of.entries_sorted st.holding.coord.installed) (ltb-true 1 (length (live_nodes st.holding.coord)) p.1) in
-      let many = two_there (live_members config past) two.low two.high (member_there few two.low two.first) (member_there few two.high two.second) two.less in
+      let installed = st.holding.coord.installed in
+      let two = two_keys (map_of.entries installed) (map_of.entries_sorted installed) (ltb-true 1 (length (live_nodes st.holding.coord)) p.1) in
+      let many =
+      two_there (live_members config past) two.low two.high (member_there few two.low two.first) (member_there few two.high two.second)
+      two.less in
       λ i. (sym (told.live node) ∙ p.0) i && lt-ltb 1 (length (live_members config past)) many i
 
   -- an announced topology has the next number, and as many segments as the cluster
@@ -138,7 +143,8 @@ module _ (config : Config) (past : List Event) (st : State) (k : IsKept config p
       let follows = next_follows (all_copied st.holding) st.holding.coord t topologies.some_live topologies.owned next in
       let id : t.id ≡ (newest_topology config past).id + 1 = follows.next_id ∙ ap (λ (u : Topology). u.id + 1) told.newest in
       let current : length t.current ≡ config.segments = next.as_long ∙ topologies.all_segments in
-      λ i. eq-eqb t.id ((newest_topology config past).id + 1) id i && (eq-eqb (length t.current) config.segments current i && pending current follows.owned.same_length i)
+      λ i. eq-eqb t.id ((newest_topology config past).id + 1) id i
+      && (eq-eqb (length t.current) config.segments current i && pending current follows.owned.same_length i)
     where
       pending : length t.current ≡ config.segments → (t.phase ≡ NoRebalance) ⊎ (length t.pending ≡ length t.current)
           → (same_phase t.phase NoRebalance || (length t.pending == config.segments)) ≡ true
