@@ -69,5 +69,6 @@ each_apart AtMost config past call h clauses.Twice = h.once
 each_apart AtMost config past call h clauses.Held = h.held
 each_apart _ config past call h _ = tt
 
+-- both together
 pub guarantees : ClausesAreGuarantees
 guarantees = record { together = all_together; each = each_apart }

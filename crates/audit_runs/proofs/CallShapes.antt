@@ -108,6 +108,7 @@ module _ (config : Config) (past : List Event) (st : State) (k : AllKept config 
       let on : (call : Call) × GoesOn st (call_of st.calling number) call = going st (call_of st.calling number) h in
       open_goes number on.0 on.1.there on.1.unanswered
 
+  -- and so does the call that asked for a unit
   asker_goes : (number : ℕ) (unit : Unit) → unit_of st.calling number ≡ Some unit
       → states.goes_on st.holding (call_of st.calling unit.work.call) ≡ true
       → asker_goes_on past (asker_of past number) ≡ true
@@ -222,7 +223,7 @@ module _ (config : Config) (past : List Event) (st : State) (k : AllKept config 
           let on = open_goes unit.work.call call can.there can.unanswered in
           λ i. running_reads x.unit unit can.found on runs i && form_is true x.unit unit can.found on (sym walked) i
 
-  -- the events of these kinds have their shape
+  -- begins, scans, fetches and ends fit their past
   pub begin_event_fits : (number : ℕ) (runs : Bool) → allowed st (Begin number runs) ≡ true
       → fits_past config past (Begin number runs) ≡ true
   unfolding can_begin
@@ -246,7 +247,7 @@ module _ (config : Config) (past : List Event) (st : State) (k : AllKept config 
   asks_numbered originator n m (segment ∷ segments) same =
       λ i. eq-eqb n m same i && asks_numbered originator (n + 1) (m + 1) segments (ap (λ x. x + 1) same) i
 
-  -- a round is made at its originator, which is live and has installed the topology of its number
+  -- the originator of a round is live, and has installed the topology of its number
   at_originator : (id : ℕ) (call : Call) (o : Option InvokeEvent) → option_map (λ (i : InvokeEvent). i.node) o ≡ Some call.originator
       → lives st.holding.coord call.originator ≡ true
       → id ≡ installed_id st.holding.coord call.originator → is_at_originator config past id o ≡ true
@@ -259,6 +260,7 @@ module _ (config : Config) (past : List Event) (st : State) (k : AllKept config 
       ap (installed_topology config past) same ∙ sym (k.kept.told.installed call.originator live) ∙ sym at in
       λ i. live_told i && eq-eqb (installed_topology config past invoke.node) id id_told i
 
+  -- a round is of a call that goes on, at its originator, and its units have the following numbers
   pub round_fits : (r : RoundEvent) → UnitsTold past st → allowed st (Round r) ≡ true → fits_past config past (Round r) ≡ true
   unfolding fits_past
   round_fits r many may = let known : (call : Call) × RoundKnown st r call = round_known st r may in by_known known.0 known.1

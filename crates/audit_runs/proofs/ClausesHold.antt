@@ -44,7 +44,8 @@ module _ (config : Config) (past : List Event) where
 
       by_right : (which : Clause) (request : Request) → request_of past a.call ≡ Some request
           → AnswerHolds which config (Answer a ∷ past) a.call request a.outcome
-      by_right which request asked = right_holds config (Answer a ∷ past) a.call request a.outcome (right.outcome request a.outcome asked said) which
+      by_right which request asked =
+          right_holds config (Answer a ∷ past) a.call request a.outcome (right.outcome request a.outcome asked said) which
 
       by_clause : (which : Clause) → Holds which config past (Answer a)
       by_clause clauses.Shape = shape

@@ -75,14 +75,16 @@ chunk_known config (e ∷ chunk) h =
     let p = and_parts (has_segment config e.key) (is_of_kind config.values e.stamped.value) h.0 in
     let rest = chunk_known config chunk h.1 in (
       and_from (has_segment config e.key) (list_all (has_segment config) (map (λ (e : StampedEntry). e.key) chunk)) p.0 rest.0,
-      and_from (is_of_kind config.values e.stamped.value) (list_all (is_of_kind config.values) (map (λ (e : StampedEntry). e.stamped.value) chunk)) p.1 rest.1,
+      and_from (is_of_kind config.values e.stamped.value)
+          (list_all (is_of_kind config.values) (map (λ (e : StampedEntry). e.stamped.value) chunk)) p.1 rest.1,
     )
 
 -- what passes for each key of items passes for each key of the later ones
 later_pass : (p : List ℕ → Bool) (xs ys : List Item) → list_all p (keys_in (xs ++ ys)) ≡ true → list_all p (keys_in ys) ≡ true
 later_pass p [] ys h = h
 later_pass p (x ∷ xs) ys h =
-    later_pass p xs ys (and_parts (list_all p (key_in x)) (list_all p (keys_in (xs ++ ys))) (sym (list_all-append p (key_in x) (keys_in (xs ++ ys))) ∙ h)).1
+    let both = sym (list_all-append p (key_in x) (keys_in (xs ++ ys))) ∙ h in
+    later_pass p xs ys (and_parts (list_all p (key_in x)) (list_all p (keys_in (xs ++ ys))) both).1
 
 -- ---- what is read and copied stands
 
@@ -118,7 +120,8 @@ module _ (config : Config) (past : List Event) (st : State) (k : AllKept config 
       chunk_known config c.batch.entries
       (standing c.segment (map plain_entry c.batch.entries)
       (subst (λ (b : Portion StampedEntry). AllByRecursion (FitsNow config past c.segment) (map plain_entry b.entries)) (sym is)
-      (batch_fits config past st.holding.copying.cells c.segment c.provider st.holding.config.chunk (sent_of (transfer_of st.holding c.receiver c.segment)) sends.right)))
+      (batch_fits config past st.holding.copying.cells c.segment c.provider st.holding.config.chunk
+      (sent_of (transfer_of st.holding c.receiver c.segment)) sends.right)))
 
 -- ---- what is taken and answered is held
 

@@ -10,6 +10,7 @@ use Rattle.grid_event.specs.declared.call_events.RoundEvent.{RoundEvent}
 use Rattle.grid_event.specs.declared.config.Config.{Config}
 use Rattle.grid_event.specs.declared.event.Event.{Event}
 use Rattle.grid_event.specs.declared.event.Event.TheVariants.{Write, Erase, Join, Depart, Announce, Install, Copy, Land, Invoke, Round, Answer}
+use Rattle.state_transfer.specs.Copying.{Transfer}
 use Rattle.topology_coord.specs.Changes.{announces}
 use Rattle.topology_coord.specs.Coordination.{lives}
 use Rattle.topology_phase.proofs.Mending.{owned_within}
@@ -84,7 +85,8 @@ module _ (config : Config) (past : List Event) (st : State) (k : IsKept config p
       → list_all small (map (λ (ask : Ask). ask.node) asks) ≡ true
   asked_small call id [] placed = refl
   asked_small call id (ask ∷ asks) placed =
-      and_from (small ask.node) (list_all small (map (λ (ask : Ask). ask.node) asks)) (live_small ask.node (placed.0.live refl)) (asked_small call id asks placed.1)
+      and_from (small ask.node) (list_all small (map (λ (ask : Ask). ask.node) asks)) (live_small ask.node (placed.0.live refl))
+      (asked_small call id asks placed.1)
 
   round_small : (r : RoundEvent) → allowed st (Round r) ≡ true → list_all small (map (λ (ask : Ask). ask.node) r.asks) ≡ true
   round_small r may = let known : (call : Call) × RoundKnown st r call = round_known st r may in by_known known.0 known.1
@@ -108,7 +110,8 @@ module _ (config : Config) (past : List Event) (st : State) (k : IsKept config p
   nodes_known (Install node id) may = alone (small node) (live_small node (and_parts (lives st.holding.coord node) _ may).0)
   nodes_known (Copy c) may =
       let sends = may_copy config.segments st (contents_of config past) c k.parts may in
-      and_from (small c.receiver) (small c.provider && true) (live_small c.receiver sends.live) (alone (small c.provider) (live_small c.provider sends.provides.0))
+      and_from (small c.receiver) (small c.provider && true) (live_small c.receiver sends.live)
+      (alone (small c.provider) (live_small c.provider sends.provides.0))
   nodes_known (Land receiver segment) may =
       let there = may_land st receiver segment may in
       alone (small receiver) (live_small receiver (k.parts.transfers receiver segment there.0 there.1).live)
@@ -123,28 +126,20 @@ module _ (config : Config) (past : List Event) (st : State) (k : IsKept config p
   abbrev within : ℕ → Bool
   within segment = nat_lt segment config.segments
 
-  -- a segment with a current owner is one of the cluster's
-  owned_inside : (node segment : ℕ) → among node (owners_at st.holding.coord.newest.current segment) ≡ true → within segment ≡ true
-  owned_inside node segment owns =
-      let below = owned_within st.holding.coord.newest.current segment node owns in
-      let long : length st.holding.coord.newest.current ≡ config.segments = k.parts.topologies.all_segments in
-      lt-ltb segment config.segments (omega (arith, below, long))
+  -- a segment with an owner by a hash of all segments is one of the cluster's
+  owned_inside : (hash : Hash) (node segment : ℕ) → length hash ≡ config.segments → among node (owners_at hash segment) ≡ true
+      → within segment ≡ true
+  owned_inside hash node segment long owns =
+      let below = owned_within hash segment node owns in lt-ltb segment config.segments (omega (arith, below, long))
 
-  -- so is one that a transfer leads to its receiver
-  received_inside : (receiver segment : ℕ) → (length st.holding.coord.newest.pending ≡ length st.holding.coord.newest.current)
-      → among receiver (owners_at st.holding.coord.newest.pending segment) ≡ true → within segment ≡ true
-  received_inside receiver segment same owns =
-      let below = owned_within st.holding.coord.newest.pending segment receiver owns in
-      let long : length st.holding.coord.newest.current ≡ config.segments = k.parts.topologies.all_segments in
-      lt-ltb segment config.segments (omega (arith, below, long, same))
-
-  landed_inside : (receiver segment : ℕ) (transfer : _)
+  -- so is one of which there is a transfer
+  transferred_inside : (receiver segment : ℕ) (transfer : Transfer)
       → IsSound st.holding.coord st.holding.copying.cells (contents_of config past) receiver segment transfer → within segment ≡ true
-  landed_inside receiver segment transfer sound =
-      received_inside receiver segment
+  transferred_inside receiver segment transfer sound =
+      owned_inside st.holding.coord.newest.pending receiver segment
       (elim k.parts.topologies.owned.same_length [
         | inl quiet ↦ (let first = sound.receives.phase in absurd (cc))
-        | inr same ↦ same
+        | inr same ↦ same ∙ k.parts.topologies.all_segments
       ]) sound.receives.pending
 
   -- and so are those that a round asks for
@@ -164,10 +159,10 @@ module _ (config : Config) (past : List Event) (st : State) (k : IsKept config p
   unfolding segments_named
   segments_known (Copy c) may =
       let sends = may_copy config.segments st (contents_of config past) c k.parts may in
-      alone (within c.segment) (owned_inside c.provider c.segment sends.provides.1)
+      alone (within c.segment) (owned_inside st.holding.coord.newest.current c.provider c.segment k.parts.topologies.all_segments sends.provides.1)
   segments_known (Land receiver segment) may =
       let there = may_land st receiver segment may in
-      alone (within segment) (landed_inside receiver segment there.0 (k.parts.transfers receiver segment there.0 there.1))
+      alone (within segment) (transferred_inside receiver segment there.0 (k.parts.transfers receiver segment there.0 there.1))
   segments_known (Round r) may = round_inside r may
   segments_known (Answer a) may =
       let facts : (call : Call) × CanAnswer st a call = answer_facts st a may in
