@@ -1,5 +1,5 @@
 -- Hints stay true.
-use Rattle.std.proofs.Common.{◌≡◌, ℕ, ◌<◌, ◌≤◌, ◌==◌, nat_lt, Bool, true, false, cond, not, ◌&&◌, if◌then◌else◌, List, Option, Some, None, is_none, is_some, refl, sym, ap, ◌∙◌, arith}
+use Rattle.std.proofs.Common.{◌≡◌, ℕ, ◌<◌, ◌≤◌, ◌==◌, nat_lt, Bool, true, false, cond, not, ◌&&◌, if◌then◌else◌, List, Option, Some, None, is_none, is_some, refl, sym, ap, subst, ◌∙◌, arith}
 use Rattle.std.proofs.lemmas.Bool.{and_from, and_parts, eq-eqb, eqb-true, false_from_ne_true, lt-ltb, ltb-false, ltb-true, true≢false}
 use Rattle.std.specs.FinMap as map_of
 use Rattle.std.specs.Option.{option_map}
@@ -19,21 +19,18 @@ use Rattle.topology_coord.specs.Following.{receives}
 use Rattle.topology_phase.specs.Owners.{owners_at}
 use Rattle.cluster_model.specs.State.{Holding}
 use Rattle.cluster_model.specs.Transfers.{provider, transfer_of}
-use Rattle.cluster_store.specs.Hints.{IsAhead, IsFlying, AreHints, IsPassed, also, back_to, hints_announced, hints_changed, hints_landed, hints_sent, without}
+use Rattle.cluster_store.specs.Hints.{IsAhead, IsFlying, AreHints, IsPassed, IsWith, IsWithout, WasAnnounced, WasLanded, WasSent, back_to, hints_changed, may_fly}
 use Rattle.cluster_store.specs.Sending.{sender}
 use Rattle.cluster_store.specs.declared.hints.Hints.{Hints}
 use Rattle.cluster_store.specs.declared.hints.ahead.Ahead.{Ahead}
 use Rattle.cluster_store.specs.declared.hints.flying.Flying.{Flying}
-use Rattle.cluster_store.specs.declared.hints.flying.Flying.TheVariants.{Any, Nothing, Only}
 use Rattle.cluster_store.specs.declared.hints.place.Place.{Place}
 
 -- ---- what flies
 
 -- where no more flies, the hint of what flies stays true
 flying_kept : (k : Flying) (before later : Transfers) → ((r s : ℕ) → flies (transfer_to before r s) ≡ false → flies (transfer_to later r s) ≡ false) → IsFlying k before → IsFlying k later
-flying_kept Nothing before later kept h = λ r s. kept r s (h r s)
-flying_kept (Only a b) before later kept h = λ r s other. kept r s (h r s other)
-flying_kept Any before later kept h = tt
+flying_kept k before later kept h = λ r s none. kept r s (h r s none)
 
 -- where no transfer is there, nothing flies
 pub nothing_flies : (ts : Transfers) → ts ≡ map_of.empty → (r s : ℕ) → flies (transfer_to ts r s) ≡ false
@@ -47,16 +44,8 @@ module _ (r s q : ℕ) (chunk : Portion StampedEntry) (p : Copying) where
       ∙ ap (λ b. flies (cond b (Some (with_chunk chunk (begun (transfer_to p.transfers r s) q))) (transfer_to p.transfers x y))) other
       ∙ none
 
-  flying_sends : (k : Flying) → IsFlying k p.transfers → IsFlying (also k r s) (sends r s q chunk p).transfers
-  flying_sends Nothing h = λ x y other. others_sent x y other (h x y)
-  flying_sends Any h = tt
-  flying_sends (Only a b) h = by_place ((a == r) && (b == s)) refl
-    where
-      by_place : (same : Bool) → ((a == r) && (b == s)) ≡ same → IsFlying (if same then Only a b else Any) (sends r s q chunk p).transfers
-      by_place false e = tt
-      by_place true e =
-          let parts = and_parts (a == r) (b == s) e in
-          λ x y other. others_sent x y (sym (λ i. (x == eqb-true a r parts.0 i) && (y == eqb-true b s parts.1 i)) ∙ other) (h x y other)
+  flying_sends : (k next : Flying) → IsWith k r s next → IsFlying k p.transfers → IsFlying next (sends r s q chunk p).transfers
+  flying_sends k next is h = λ x y none. let parts = is x y none in others_sent x y parts.0 (h x y parts.1)
 
 -- one flies no longer
 emptied_none : (r s x y : ℕ) (found : Option Transfer) → flies found ≡ false → flies (option_map (emptied r s x y) found) ≡ false
@@ -75,21 +64,12 @@ module _ (r s : ℕ) (p : Copying) where
   others_landed : (x y : ℕ) → flies (transfer_to p.transfers x y) ≡ false → flies (transfer_to (lands r s p).transfers x y) ≡ false
   others_landed x y none = ap flies (transfer-lands r s p x y) ∙ emptied_none r s x y (transfer_to p.transfers x y) none
 
-  flying_lands : (k : Flying) → IsFlying k p.transfers → IsFlying (without k r s) (lands r s p).transfers
-  flying_lands Nothing h = λ x y. others_landed x y (h x y)
-  flying_lands Any h = tt
-  flying_lands (Only a b) h = by_place ((a == r) && (b == s)) refl
+  flying_lands : (k next : Flying) → IsWithout k r s next → IsFlying k p.transfers → IsFlying next (lands r s p).transfers
+  flying_lands k next is h = λ x y none. at_place x y none ((x == r) && (y == s)) refl
     where
-      at_place : (x y : ℕ) (same : Bool) → ((x == a) && (y == b)) ≡ same → ((a == r) && (b == s)) ≡ true → flies (transfer_to (lands r s p).transfers x y) ≡ false
-      at_place x y false other e = others_landed x y (h x y other)
-      at_place x y true here e =
-          let parts = and_parts (a == r) (b == s) e in
-          ap flies (transfer-lands r s p x y)
-          ∙ emptied_there r s x y (transfer_to p.transfers x y) (sym (λ i. (x == eqb-true a r parts.0 i) && (y == eqb-true b s parts.1 i)) ∙ here)
-
-      by_place : (same : Bool) → ((a == r) && (b == s)) ≡ same → IsFlying (if same then Nothing else Only a b) (lands r s p).transfers
-      by_place true e = λ x y. at_place x y ((x == a) && (y == b)) refl e
-      by_place false e = λ x y other. others_landed x y (h x y other)
+      at_place : (x y : ℕ) → may_fly next x y ≡ false → (here : Bool) → ((x == r) && (y == s)) ≡ here → flies (transfer_to (lands r s p).transfers x y) ≡ false
+      at_place x y none false e = others_landed x y (h x y (is x y e none))
+      at_place x y none true e = ap flies (transfer-lands r s p x y) ∙ emptied_there r s x y (transfer_to p.transfers x y) e
 
 -- of what a departure leaves, no more flies
 kept_none : (b : Bool) (found : Option Transfer) → flies found ≡ false → flies (cond b found None) ≡ false
@@ -262,19 +242,23 @@ hints_ticks k st clock =
     (transfer-ticks clock st.copying r t) (thin clock (transfer_to st.copying.transfers r t)))
 
 -- a chunk is sent
-pub hints_sends : (k : Hints) (st : Holding) (r s q : ℕ) (chunk : Portion StampedEntry) → AreHints k st → AreHints (hints_sent r s k) (record st { copying = sends r s q chunk st.copying })
-hints_sends k st r s q chunk h = record {
-  ahead = h.ahead;
-  flying = flying_sends r s q chunk st.copying k.flying h.flying;
-  passed = record {
+pub hints_sends : (k next : Hints) (st : Holding) (r s q : ℕ) (chunk : Portion StampedEntry) → WasSent r s k next → AreHints k st → AreHints next (record st { copying = sends r s q chunk st.copying })
+hints_sends k next st r s q chunk is h = record {
+  ahead = subst (λ (a : Ahead). IsAhead a st.coord) (sym is.ahead) h.ahead;
+  flying = flying_sends r s q chunk st.copying k.flying next.flying is.flying h.flying;
+  passed = subst (λ (place : Place). IsPassed (record st { copying = sends r s q chunk st.copying }) place.receiver place.segment) (sym is.from) (record {
     receivers = λ x y before within. sender_sends st r s q chunk x y (h.passed.receivers x y before within);
     segments = λ y before within. sender_sends st r s q chunk k.from.receiver y (h.passed.segments y before within);
-  };
+  });
 }
 
 -- one lands
-pub hints_lands : (k : Hints) (st : Holding) (r s : ℕ) → AreHints k st → AreHints (hints_landed r s k) (record st { copying = lands r s st.copying })
-hints_lands k st r s h = record { ahead = h.ahead; flying = flying_lands r s st.copying k.flying h.flying; passed = passed_lands st r s k.from h.passed }
+pub hints_lands : (k next : Hints) (st : Holding) (r s : ℕ) → WasLanded r s k next → AreHints k st → AreHints next (record st { copying = lands r s st.copying })
+hints_lands k next st r s is h = record {
+  ahead = subst (λ (a : Ahead). IsAhead a st.coord) (sym is.ahead) h.ahead;
+  flying = flying_lands r s st.copying k.flying next.flying is.flying h.flying;
+  passed = subst (λ (place : Place). IsPassed (record st { copying = lands r s st.copying }) place.receiver place.segment) (sym is.from) (passed_lands st r s k.from h.passed);
+}
 
 -- members or topologies change, and no more flies
 pub hints_later : (k : Hints) (st : Holding) (ahead : Ahead) (coord : Coordination) (copying : Copying) → IsAhead ahead coord
@@ -283,6 +267,14 @@ pub hints_later : (k : Hints) (st : Holding) (ahead : Ahead) (coord : Coordinati
 hints_later k st ahead coord copying is kept h = record { ahead = is; flying = flying_kept k.flying st.copying.transfers copying.transfers kept h.flying; passed = none_passed (record st { coord = coord; copying = copying }) }
 
 -- a topology is announced
-pub hints_announces : (k : Hints) (st : Holding) (keeps : Bool) (coord : Coordination) → AreHints k st → AreHints (hints_announced keeps k) (record st { coord = coord; copying = cond keeps st.copying (closes st.copying) })
-hints_announces k st true coord h = record { ahead = tt; flying = h.flying; passed = none_passed (record st { coord = coord }) }
-hints_announces k st false coord h = record { ahead = tt; flying = λ r s. ap flies (transfer-closes st.copying r s); passed = none_passed (record st { coord = coord; copying = closes st.copying }) }
+pub hints_announces : (k next : Hints) (st : Holding) (keeps : Bool) (coord : Coordination) → WasAnnounced keeps k next → AreHints k st → AreHints next (record st { coord = coord; copying = cond keeps st.copying (closes st.copying) })
+hints_announces k next st true coord is h = record {
+  ahead = subst (λ (a : Ahead). IsAhead a coord) (sym is.ahead) tt;
+  flying = subst (λ (f : Flying). IsFlying f st.copying.transfers) (sym (is.kept refl)) h.flying;
+  passed = subst (λ (place : Place). IsPassed (record st { coord = coord }) place.receiver place.segment) (sym is.from) (none_passed (record st { coord = coord }));
+}
+hints_announces k next st false coord is h = record {
+  ahead = subst (λ (a : Ahead). IsAhead a coord) (sym is.ahead) tt;
+  flying = λ r s none. ap flies (transfer-closes st.copying r s);
+  passed = subst (λ (place : Place). IsPassed (record st { coord = coord; copying = closes st.copying }) place.receiver place.segment) (sym is.from) (none_passed (record st { coord = coord; copying = closes st.copying }));
+}

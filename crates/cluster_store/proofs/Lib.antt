@@ -9,3 +9,4 @@ pub mod Landings
 pub mod Rows
 pub mod Departures
 pub mod EventLaws
+pub mod Flights

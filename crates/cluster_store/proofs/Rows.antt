@@ -35,7 +35,7 @@ use Rattle.cluster_model.specs.Writes.{can_change, can_erase, can_tick, can_writ
 use Rattle.cluster_laws.proofs.copies.Facts.{turned}
 use Rattle.cluster_laws.proofs.copies.ProviderSteps.{IsProvided}
 use Rattle.cluster_store.specs.Insides.{IsReached, IsStore, holding_of}
-use Rattle.cluster_store.specs.Hints.{IsAhead, AreHints, IsPassed, hints_announced, hints_changed, hints_landed, hints_sent}
+use Rattle.cluster_store.specs.Hints.{IsAhead, AreHints, IsPassed, WasAnnounced, WasLanded, WasSent, hints_changed}
 use Rattle.cluster_store.specs.declared.hints.Hints.{Hints}
 use Rattle.cluster_store.specs.declared.hints.ahead.Ahead.{Ahead}
 use Rattle.cluster_store.specs.declared.hints.place.Place.{Place}
@@ -153,21 +153,20 @@ tick_row fields st number clock stores h view may is are =
 
 -- so does a chunk that lands
 pub land_row : (fields : Inside) (st : Holding) (r s : ℕ) (stores : Stores) (hints : Hints) → IsStore fields → holding_of fields ≡ st → can_land st r s ≡ true
-    → stores ≡ record fields.copies { copying = lands r s fields.copies.copying } → hints ≡ hints_landed r s fields.hints → Becomes (record fields { copies = stores; hints = hints }) (landed st r s)
+    → stores ≡ record fields.copies { copying = lands r s fields.copies.copying } → WasLanded r s fields.hints hints → Becomes (record fields { copies = stores; hints = hints }) (landed st r s)
 unfolding landed
 land_row fields st r s stores hints h view may are so =
     copies_become fields stores (lands r s fields.copies.copying) hints st (λ (x : Holding). landed x r s) (events.Land r s) h view (λ _. may) (λ _. refl) are refl
-    (subst (λ k. AreHints k (record (holding_of fields) { copying = lands r s fields.copies.copying })) (sym so) (hints_lands fields.hints (holding_of fields) r s h.hints))
+    (hints_lands fields.hints hints (holding_of fields) r s so h.hints)
 
 -- so does a chunk that is sent
 pub copy_row : (fields : Inside) (st : Holding) (e : CopyEvent) (stores : Stores) (hints : Hints) → IsStore fields → holding_of fields ≡ st → can_copy st e ≡ true
-    → stores ≡ record fields.copies { copying = sends e.receiver e.segment e.provider e.batch fields.copies.copying } → hints ≡ hints_sent e.receiver e.segment fields.hints
+    → stores ≡ record fields.copies { copying = sends e.receiver e.segment e.provider e.batch fields.copies.copying } → WasSent e.receiver e.segment fields.hints hints
     → Becomes (record fields { copies = stores; hints = hints }) (copied st e)
 unfolding copied
 copy_row fields st e stores hints h view may are so =
     copies_become fields stores (sends e.receiver e.segment e.provider e.batch fields.copies.copying) hints st (λ (x : Holding). copied x e) (events.Copy e) h view (λ _. may) (λ _. refl) are refl
-    (subst (λ k. AreHints k (record (holding_of fields) { copying = sends e.receiver e.segment e.provider e.batch fields.copies.copying })) (sym so)
-    (hints_sends fields.hints (holding_of fields) e.receiver e.segment e.provider e.batch h.hints))
+    (hints_sends fields.hints hints (holding_of fields) e.receiver e.segment e.provider e.batch so h.hints)
 
 -- no chunk may be sent before a place, where that is so in the state
 pub passed_row : (fields : Inside) (st : Holding) (place : Place) → IsStore fields → holding_of fields ≡ st → IsPassed st place.receiver place.segment
@@ -241,13 +240,12 @@ announce_next fields st t view may = ap (λ (x : Holding). next_topology x) view
 -- an announcement makes of the store what the cluster's step makes of what it holds
 pub announce_row : (fields : Inside) (st : Holding) (t : Topology) (coord : Coordination) (stores : Stores) (hints : Hints) → IsStore fields → holding_of fields ≡ st → can_announce st t ≡ true
     → coord ≡ announces fields.coord t → stores ≡ record fields.copies { copying = cond (same_phase t.phase ReadOld) fields.copies.copying (closes fields.copies.copying) }
-    → hints ≡ hints_announced (same_phase t.phase ReadOld) fields.hints → Becomes (record fields { coord = coord; copies = stores; hints = hints }) (announced st t)
+    → WasAnnounced (same_phase t.phase ReadOld) fields.hints hints → Becomes (record fields { coord = coord; copies = stores; hints = hints }) (announced st t)
 unfolding announced announces
 announce_row fields st t coord stores hints h view may is are so =
     becomes fields (record fields { coord = coord; copies = stores; hints = hints }) st (announced st t) (events.Announce t) h view (λ _. may) (λ _. refl) refl
     (λ n. ap (λ (x : Stores). set_of.contains x.nodes n) are ∙ h.nodes n ∙ ap (λ (x : Coordination). lives x n) (sym is))
     ((λ i. record (holding_of fields) { coord = is i; copying = (are i).copying })
     ∙ ap (λ (x : Holding). record x { coord = announces x.coord t; copying = cond (same_phase t.phase ReadOld) x.copying (closes x.copying) }) view)
-    (subst (λ k. AreHints k (record (holding_of fields) { coord = coord; copying = stores.copying })) (sym so)
-    (subst (λ (x : Stores). AreHints (hints_announced (same_phase t.phase ReadOld) fields.hints) (record (holding_of fields) { coord = coord; copying = x.copying })) (sym are)
-    (hints_announces fields.hints (holding_of fields) (same_phase t.phase ReadOld) coord h.hints)))
+    (subst (λ (x : Stores). AreHints hints (record (holding_of fields) { coord = coord; copying = x.copying })) (sym are)
+    (hints_announces fields.hints hints (holding_of fields) (same_phase t.phase ReadOld) coord so h.hints))

@@ -1,5 +1,7 @@
 -- Hints: what a store keeps beside what it holds, so that it needn't search. A hint may say that it knows nothing; it is never wrong.
-use Rattle.std.specs.Prelude.{◌≡◌, ℕ, ◌<◌, ◌==◌, nat_lt, ◌&&◌, Bool, false, cond, if◌then◌else◌, Option, None, Some}
+use Rattle.std.specs.Prelude.{◌≡◌, ℕ, ◌<◌, ◌==◌, nat_lt, ◌&&◌, Bool, true, false, if◌then◌else◌, slice_get, Option, None, Some}
+use Rattle.std.specs.FinSet as set_of
+use Rattle.std.specs.Ordering.{nat_cmp}
 use Rattle.std.specs.Bool.{⊤}
 use Rattle.topology_coord.specs.Coordination.{Coordination}
 use Rattle.topology_coord.specs.Following.{cancels, following}
@@ -10,9 +12,9 @@ use Rattle.state_transfer.specs.Copying.{Transfers, transfer_to}
 use Rattle.cluster_store.specs.Sending.{sender}
 use Rattle.cluster_store.specs.declared.hints.Hints.{Hints}
 use Rattle.cluster_store.specs.declared.hints.ahead.Ahead.{Ahead}
-use Rattle.cluster_store.specs.declared.hints.ahead.Ahead.TheVariants.{Unknown, NoCancellation, NoTopology}
+use Rattle.cluster_store.specs.declared.hints.ahead.Ahead.TheVariants.{Unknown, NoCancellation, AwaitsCopies, NoTopology}
 use Rattle.cluster_store.specs.declared.hints.flying.Flying.{Flying}
-use Rattle.cluster_store.specs.declared.hints.flying.Flying.TheVariants.{Nothing, Only, Any}
+use Rattle.cluster_store.specs.declared.hints.flying.Flying.TheVariants as flights
 use Rattle.cluster_store.specs.declared.hints.place.Place.{Place}
 
 -- there is a next topology, and it gives up the rebalance
@@ -20,29 +22,35 @@ abbrev pub gives_up : Coordination → Option Topology → Bool
 gives_up coord None = false
 gives_up coord (Some next) = cancels coord next
 
--- whether receivers have their copies or not, what follows doesn't give up a rebalance, or nothing follows
+-- what is known of what follows, whether receivers have their copies or not
 abbrev pub IsAhead : Ahead → Coordination → Type 0
 IsAhead Unknown coord = ⊤
 IsAhead NoCancellation coord = (copied : Bool) → gives_up coord (following copied coord) ≡ false
+IsAhead AwaitsCopies coord = (following false coord ≡ None) × (gives_up coord (following true coord) ≡ false)
 IsAhead NoTopology coord = (copied : Bool) → following copied coord ≡ None
 
--- nothing flies, or nothing but of the segment to the receiver
+-- for all that the hint says, a chunk of the segment may fly to the receiver
+abbrev pub in_set : Option (set_of.FinSet nat_cmp) → ℕ → Bool
+in_set None segment = false
+in_set (Some set) segment = set_of.contains set segment
+
+abbrev pub may_fly : Flying → ℕ → ℕ → Bool
+may_fly (flights.To sets) receiver segment = in_set (slice_get sets receiver) segment
+may_fly flights.Unknown receiver segment = true
+
+-- nothing flies but where the hint says so
 abbrev pub IsFlying : Flying → Transfers → Type 0
-IsFlying Nothing transfers = (r s : ℕ) → flies (transfer_to transfers r s) ≡ false
-IsFlying (Only receiver segment) transfers = (r s : ℕ) → ((r == receiver) && (s == segment)) ≡ false → flies (transfer_to transfers r s) ≡ false
-IsFlying Any transfers = ⊤
+IsFlying flying transfers = (r s : ℕ) → may_fly flying r s ≡ false → flies (transfer_to transfers r s) ≡ false
 
--- with a chunk of the segment that flies to the receiver
-abbrev pub also : Flying → ℕ → ℕ → Flying
-also Nothing receiver segment = Only receiver segment
-also (Only r s) receiver segment = if (r == receiver) && (s == segment) then Only r s else Any
-also Any receiver segment = Any
+-- the later hint says so of the place, and wherever the earlier one does
+abbrev pub IsWith : Flying → ℕ → ℕ → Flying → Type 0
+IsWith before receiver segment after =
+    (r s : ℕ) → may_fly after r s ≡ false → (((r == receiver) && (s == segment)) ≡ false) × (may_fly before r s ≡ false)
 
--- without it
-abbrev pub without : Flying → ℕ → ℕ → Flying
-without Nothing receiver segment = Nothing
-without (Only r s) receiver segment = if (r == receiver) && (s == segment) then Nothing else Only r s
-without Any receiver segment = Any
+-- wherever the earlier hint says so, the later one does, but perhaps at the place
+abbrev pub IsWithout : Flying → ℕ → ℕ → Flying → Type 0
+IsWithout before receiver segment after =
+    (r s : ℕ) → ((r == receiver) && (s == segment)) ≡ false → may_fly after r s ≡ false → may_fly before r s ≡ false
 
 -- the first place in the order by receiver and then by segment
 abbrev pub first_place : Place
@@ -64,20 +72,24 @@ pub record IsPassed (st : Holding) (receiver segment : ℕ) : Type 0 where
 abbrev pub hints_changed : Ahead → Hints → Hints
 hints_changed ahead hints = record hints { ahead = ahead; from = first_place }
 
--- the hints once a topology is announced, which keeps the transfers or closes them all
-abbrev pub hints_announced : Bool → Hints → Hints
-hints_announced keeps hints = record (hints_changed Unknown hints) { flying = cond keeps hints.flying Nothing }
+-- a topology was announced, which keeps the transfers or closes them all
+pub record WasAnnounced (keeps : Bool) (before after : Hints) : Type 0 where
+  pub ahead : after.ahead ≡ Unknown
+  pub from : after.from ≡ first_place
+  pub kept : keeps ≡ true → after.flying ≡ before.flying
+  pub closed : keeps ≡ false → (r s : ℕ) → may_fly after.flying r s ≡ false
 
--- the hints once a chunk is sent
-abbrev pub hints_sent : ℕ → ℕ → Hints → Hints
-hints_sent receiver segment hints = record hints { flying = also hints.flying receiver segment }
+-- a chunk of the segment was sent to the receiver
+pub record WasSent (receiver segment : ℕ) (before after : Hints) : Type 0 where
+  pub ahead : after.ahead ≡ before.ahead
+  pub from : after.from ≡ before.from
+  pub flying : IsWith before.flying receiver segment after.flying
 
--- and once one lands
-abbrev pub hints_landed : ℕ → ℕ → Hints → Hints
-hints_landed receiver segment hints = record hints {
-  flying = without hints.flying receiver segment;
-  from = back_to hints.from receiver segment;
-}
+-- and it landed
+pub record WasLanded (receiver segment : ℕ) (before after : Hints) : Type 0 where
+  pub ahead : after.ahead ≡ before.ahead
+  pub from : after.from ≡ back_to before.from receiver segment
+  pub flying : IsWithout before.flying receiver segment after.flying
 
 -- no hint of what is held is wrong
 pub record AreHints (hints : Hints) (st : Holding) : Type 0 where

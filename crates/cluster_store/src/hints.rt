@@ -3,7 +3,7 @@
 ghost use Rattle.std.specs.Prelude.{◌≡◌};
 ghost use Rattle.std.specs.FinMap as map_of;
 ghost use Rattle.cluster_model.specs.State.{Holding};
-ghost use Rattle.cluster_store.specs.Hints.{AreHints, hints_announced, hints_changed, hints_landed, hints_sent};
+ghost use Rattle.cluster_store.specs.Hints.{AreHints, WasAnnounced, WasLanded, WasSent, hints_changed};
 
 mod ahead;
 mod flying;
@@ -19,7 +19,7 @@ use topology_coord::Coord;
 /// What is known of a store without a search through it: which topology may follow,
 /// which chunks fly, and a place in the order of receivers and segments before which no chunk may
 /// be sent.
-#[derive(Clone, Copy, Debug)]
+#[derive(Debug, Drop)]
 pub(crate) struct Hints {
     pub(crate) ahead: Ahead,
     pub(crate) flying: Flying,
@@ -34,7 +34,7 @@ impl Hints {
         let ahead = Ahead::of(alloc, coord);
         Hints {
             ahead,
-            flying: Flying::Nothing,
+            flying: Flying::nothing(),
             from: Place::first(),
         }
     }
@@ -49,27 +49,27 @@ impl Hints {
 
     /// A topology is announced, which keeps the transfers or closes them all.
     pub(crate) fn announce(&mut self, keeps: bool)
-        ensures { self.new ≡ hints_announced keeps self.old }
+        ensures { WasAnnounced keeps self.old self.new }
     {
         self.change(Ahead::Unknown);
         if keeps {
             return;
         }
-        self.flying = Flying::Nothing;
+        self.flying = Flying::nothing();
     }
 
     /// A chunk of the segment is sent to the receiver.
     pub(crate) fn send(&mut self, receiver: NodeId, segment: SegmentId)
-        ensures { self.new ≡ hints_sent receiver segment self.old }
+        ensures { WasSent receiver segment self.old self.new }
     {
-        self.flying = self.flying.also(receiver, segment);
+        self.flying.add(receiver, segment);
     }
 
     /// What flies of the segment to the receiver lands.
     pub(crate) fn land(&mut self, receiver: NodeId, segment: SegmentId)
-        ensures { self.new ≡ hints_landed receiver segment self.old }
+        ensures { WasLanded receiver segment self.old self.new }
     {
-        self.flying = self.flying.without(receiver, segment);
+        self.flying.remove(receiver, segment);
         self.from = self.from.back_to(receiver, segment);
     }
 }

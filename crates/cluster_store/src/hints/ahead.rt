@@ -8,15 +8,16 @@ use std::alloc::Global;
 use topology_coord::Coord;
 use topology_phase::{Phase, Topology};
 
-/// What is known of the topology that follows the newest one, whether receivers have their copies
-/// or not.
+/// What is known of the topology that follows the newest one.
 #[derive(Clone, Copy, Debug)]
 pub(crate) enum Ahead {
     /// Nothing.
     Unknown,
-    /// It doesn't give up a rebalance.
+    /// It doesn't give up a rebalance, whether receivers have their copies or not.
     NoCancellation,
-    /// There is none.
+    /// There is none until receivers have their copies, and then it doesn't give up a rebalance.
+    AwaitsCopies,
+    /// There is none, whether receivers have their copies or not.
     NoTopology,
 }
 
@@ -31,13 +32,16 @@ impl Ahead {
         let Ok(uncopied) = coord.next_topology(alloc, false) else {
             return Ahead::Unknown;
         };
-        if copied.is_none() && uncopied.is_none() {
-            return Ahead::NoTopology;
-        }
         if gives_up(coord, &copied) || gives_up(coord, &uncopied) {
             return Ahead::Unknown;
         }
-        Ahead::NoCancellation
+        if uncopied.is_some() {
+            return Ahead::NoCancellation;
+        }
+        if copied.is_some() {
+            return Ahead::AwaitsCopies;
+        }
+        Ahead::NoTopology
     }
 }
 

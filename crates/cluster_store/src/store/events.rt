@@ -6,7 +6,6 @@ ghost use Rattle.topology_coord.specs.Coordination.{live_nodes};
 ghost use Rattle.cluster_model.specs.Commands.{advance_event, announce_event, cancel_event, copy_event, first_some, install_event, land_event};
 ghost use Rattle.cluster_model.specs.State.{segments_of};
 
-use crate::hints::Flying;
 use crate::store::Store;
 use grid_base::{NoMemory, NodeId, SegmentId};
 use grid_event::{CopyEvent, Event};
@@ -117,21 +116,15 @@ impl Store {
     pub fn first_landing(&self, node: NodeId) -> Option<Event>
         ensures { result ≡ first_some (land_event self.now node) (segments_of self.now) }
     {
-        match self.hints.flying {
-            Flying::Nothing => return None,
-            Flying::Only(receiver, segment) => {
-                if receiver != node {
-                    return None;
-                }
-                if segment.number() >= self.config.segments {
-                    return None;
-                }
-                return self.land_event(node, segment);
-            }
-            Flying::Any => {}
+        if self.hints.flying.spares(node) {
+            return None;
         }
         for number in 0..self.config().segments {
-            let event = self.land_event(node, SegmentId::new(number));
+            let segment = SegmentId::new(number);
+            if !self.hints.flying.may_fly(node, segment) {
+                continue;
+            }
+            let event = self.land_event(node, segment);
             if event.is_some() {
                 return event;
             }

@@ -4,6 +4,7 @@ ghost use Rattle.std.specs.Prelude.{◌≡◌, ℕ, ◌&&◌, nat_lt, length, tr
 ghost use Rattle.state_transfer.specs.Calls.{ProvidesNone};
 ghost use Rattle.state_transfer.specs.Copying.{transfer_to};
 ghost use Rattle.state_transfer.specs.Leaving.{drops};
+ghost use Rattle.topology_coord.specs.Following.{following};
 ghost use Rattle.topology_phase.specs.Owners.{among};
 ghost use Rattle.topology_phase.specs.Topologies.{IsTopology, write_owners};
 ghost use Rattle.cluster_model.specs.Commands.{cancel_event};
@@ -80,7 +81,11 @@ impl Store {
         if self.ends() {
             return Ok(None);
         }
-        self.coord.next_topology(alloc, self.all_copied())
+        let copied = self.all_copied();
+        if !copied && self.awaits_copies() {
+            return Ok(None);
+        }
+        self.coord.next_topology(alloc, copied)
     }
 
     /// Whether it is known that there is no next topology.
@@ -90,11 +95,18 @@ impl Store {
         matches!(self.hints.ahead, Ahead::NoTopology)
     }
 
+    /// Whether it is known that there is no next topology until receivers have their copies.
+    fn awaits_copies(&self) -> bool
+        ensures { result ≡ true → following false self.now.coord ≡ None }
+    {
+        matches!(self.hints.ahead, Ahead::NoTopology | Ahead::AwaitsCopies)
+    }
+
     /// Whether it is known that the next topology doesn't give up a rebalance.
     pub(crate) fn goes_on(&self) -> bool
         ensures { result ≡ true → cancel_event self.now ≡ None }
     {
-        matches!(self.hints.ahead, Ahead::NoTopology | Ahead::NoCancellation)
+        !matches!(self.hints.ahead, Ahead::Unknown)
     }
 
     /// Whether every receiver of a segment has ended its transfer.

@@ -7,4 +7,8 @@ use Rattle.cluster_store.proofs.HintLaws.{none_passed, nothing_flies}
 use Rattle.cluster_store.proofs.hints.Hints.first.Goals as goal
 
 pub returns : goal.returns
-returns c st is none = record { ahead = subst (λ (coord : Coordination). IsAhead c.of-ahead.result coord) (sym is) c.of-ahead.ensures; flying = nothing_flies st.copying.transfers none; passed = subst (λ (place : Place). IsPassed st place.receiver place.segment) (sym c.first.ensures) (none_passed st) }
+returns c st is none = record {
+  ahead = subst (λ (coord : Coordination). IsAhead c.of-ahead.result coord) (sym is) c.of-ahead.ensures;
+  flying = λ r s still. nothing_flies st.copying.transfers none r s;
+  passed = subst (λ (place : Place). IsPassed st place.receiver place.segment) (sym c.first.ensures) (none_passed st);
+}
