@@ -3,21 +3,14 @@
 ghost use Rattle.std.specs.Prelude.{◌≡◌, true, IfOk};
 ghost use Rattle.cluster_model.specs.Step.{is_run};
 
-use anyhow::{Context, Result};
+use anyhow::{Context, Result, bail};
 use cluster_core::Core;
-use grid_base::{Bytes, Text};
 use grid_event::Journal;
-use grid_io::{Calls, MemSink, MemSource};
-use grid_shell::run_plain;
+use grid_script::{Script, ScriptKind, read_script};
 use std::alloc::Global;
 use std::fs;
 use std::rt::Files;
-
-/// How many bytes a source gives and a sink takes at a time.
-const PIECE: usize = 4_096;
-
-/// How many bytes a sink has room for.
-const ROOM: usize = 20_000;
+use step_run::run_steps;
 
 /// The bytes of the script of that name.
 pub fn script_bytes<R: Files + AllocGlobal>(rt: &R, name: &str) -> Result<Vec<u8>> {
@@ -26,24 +19,15 @@ pub fn script_bytes<R: Files + AllocGlobal>(rt: &R, name: &str) -> Result<Vec<u8
     Ok(fs::read(rt, file.as_str())?)
 }
 
-/// The journal of a stepped run of the script, which is a run of the cluster.
+/// The journal of the stepped run of a script, which is a run of the cluster.
 pub fn journal_of(alloc: Global, script: &[u8]) -> Result<Journal>
     ensures { IfOk result (λ journal. is_run journal.history ≡ true) }
 {
-    let mut words = Vec::new(alloc);
-    words.push(Text::new(alloc, b"step")?)?;
-    let mut bytes = Bytes::new(alloc);
-    bytes.extend(script)?;
-    let mut source = MemSource::new(bytes, PIECE, Calls::new(alloc));
-    let mut sink = MemSink::new(alloc, ROOM, PIECE, Calls::new(alloc))?;
     let mut journal = Journal::new(alloc);
-    run_plain(
-        alloc,
-        words.as_slice(),
-        &mut source,
-        &mut sink,
-        &mut journal,
-    );
+    match &read_script(alloc, script, ScriptKind::Step)? {
+        Script::Step(script) => run_steps(alloc, script, &mut journal)?,
+        Script::Live(_) => bail!("a live script"),
+    }
     Ok(journal)
 }
 

@@ -31,7 +31,7 @@ pub fn told_row<R: Files + AllocGlobal>(rt: &R, line: &str) -> Result<String> {
         words.push(Text::new(alloc, word.as_bytes())?)?;
     }
     let script = script_bytes(rt, script)?;
-    let end = run(alloc, words.as_slice(), script.as_slice(), 0, 0)?;
+    let end = run(alloc, words.as_slice(), script.as_slice())?;
     let ended = end.status.number();
     if ended != status {
         return Ok(format!(in alloc; "{name} ends with status {ended} in place of {status}")?);
@@ -46,7 +46,7 @@ pub fn told_row<R: Files + AllocGlobal>(rt: &R, line: &str) -> Result<String> {
 }
 
 /// The bytes of a script; none for `-`.
-pub fn script_bytes<R: Files + AllocGlobal>(rt: &R, name: &str) -> Result<Vec<u8>> {
+fn script_bytes<R: Files + AllocGlobal>(rt: &R, name: &str) -> Result<Vec<u8>> {
     let alloc = rt.alloc();
     if name == "-" {
         return Ok(Vec::new(alloc));

@@ -9,11 +9,8 @@ use grid_io::{Calls, MemSink, MemSource};
 use grid_shell::{Status, run_plain};
 use std::alloc::Global;
 
-/// How many bytes a source gives at a time.
-pub const READ: usize = 20;
-
-/// How many bytes a sink takes at a time.
-pub const WRITTEN: usize = 40;
+/// How many bytes a source gives and a sink takes at a time.
+const PIECE: usize = 40;
 
 /// How many bytes a sink has room for.
 const ROOM: usize = 20_000;
@@ -33,21 +30,14 @@ impl End {
     }
 }
 
-/// Runs what the words say over a script, where one read and one write fail; 0 stands for none. It
-/// ends with a run of the cluster, whatever fails.
-pub fn run(
-    alloc: Global,
-    words: &[Text],
-    script: &[u8],
-    read_fails: u32,
-    write_fails: u32,
-) -> Result<End, NoMemory>
+/// Runs what the words say over a script. It ends with a run of the cluster.
+pub fn run(alloc: Global, words: &[Text], script: &[u8]) -> Result<End, NoMemory>
     ensures { IfOk result (λ end. is_run end.journal.history ≡ true) }
 {
     let mut bytes = Bytes::new(alloc);
     bytes.extend(script)?;
-    let mut source = MemSource::new(bytes, READ, call(alloc, read_fails)?);
-    let mut sink = MemSink::new(alloc, ROOM, WRITTEN, call(alloc, write_fails)?)?;
+    let mut source = MemSource::new(bytes, PIECE, Calls::new(alloc));
+    let mut sink = MemSink::new(alloc, ROOM, PIECE, Calls::new(alloc))?;
     let mut journal = Journal::new(alloc);
     let status = run_plain(alloc, words, &mut source, &mut sink, &mut journal);
     Ok(End {
@@ -55,13 +45,4 @@ pub fn run(
         sink,
         journal,
     })
-}
-
-/// The one call of that number, or none for 0.
-fn call(alloc: Global, number: u32) -> Result<Calls, NoMemory> {
-    let mut calls = Calls::new(alloc);
-    if number > 0 {
-        calls.push(number)?;
-    }
-    Ok(calls)
 }
