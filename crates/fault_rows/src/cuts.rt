@@ -5,6 +5,8 @@ use grid_base::limits::LONGEST_SCRIPT;
 use grid_base::{Bytes, NoMemory, Text};
 use grid_shell::Status;
 use std::alloc::Global;
+use std::sync::Wait;
+use std::thread::Threads;
 
 /// How many lines the settings of a script take, its first line included.
 const SETTINGS: u32 = 7;
@@ -12,11 +14,16 @@ const SETTINGS: u32 = 7;
 /// A script that ends with a whole line, its settings complete, is run; any other front of a script
 /// is refused at its last line, or the one that is missing. The length of the first front of which
 /// this isn't true.
-pub fn first_cut(alloc: Global, words: &[Text], script: &[u8]) -> Result<Option<u32>, NoMemory> {
+pub fn first_cut<R: Threads + Wait + Sync>(
+    rt: &R,
+    alloc: Global,
+    words: &[Text],
+    script: &[u8],
+) -> Result<Option<u32>, NoMemory> {
     let mut front = Bytes::new(alloc);
     let mut length = 0u32;
     let mut line = 1u32;
-    if !refuses(alloc, words, b"", line)? {
+    if !refuses(rt, alloc, words, b"", line)? {
         return Ok(Some(length));
     }
     for byte in script {
@@ -26,9 +33,9 @@ pub fn first_cut(alloc: Global, words: &[Text], script: &[u8]) -> Result<Option<
             line = line.wrapping_add(1);
         }
         let told = if *byte == b'\n' && line > SETTINGS {
-            runs(alloc, words, front.as_slice())?
+            runs(rt, alloc, words, front.as_slice())?
         } else {
-            refuses(alloc, words, front.as_slice(), line)?
+            refuses(rt, alloc, words, front.as_slice(), line)?
         };
         if !told {
             return Ok(Some(length));
@@ -38,14 +45,25 @@ pub fn first_cut(alloc: Global, words: &[Text], script: &[u8]) -> Result<Option<
 }
 
 /// Whether the script is run.
-fn runs(alloc: Global, words: &[Text], script: &[u8]) -> Result<bool, NoMemory> {
-    let end = run(alloc, words, script, 0, 0)?;
+fn runs<R: Threads + Wait + Sync>(
+    rt: &R,
+    alloc: Global,
+    words: &[Text],
+    script: &[u8],
+) -> Result<bool, NoMemory> {
+    let end = run(rt, alloc, words, script, 0, 0)?;
     Ok(end.status == Status::Done)
 }
 
 /// Whether the script is refused, as the line is none.
-fn refuses(alloc: Global, words: &[Text], script: &[u8], line: u32) -> Result<bool, NoMemory> {
-    let end = run(alloc, words, script, 0, 0)?;
+fn refuses<R: Threads + Wait + Sync>(
+    rt: &R,
+    alloc: Global,
+    words: &[Text],
+    script: &[u8],
+    line: u32,
+) -> Result<bool, NoMemory> {
+    let end = run(rt, alloc, words, script, 0, 0)?;
     if end.status != Status::ScriptRefused {
         return Ok(false);
     }
@@ -54,13 +72,18 @@ fn refuses(alloc: Global, words: &[Text], script: &[u8], line: u32) -> Result<bo
 }
 
 /// A script of one byte more than may be is refused as a whole. Its length, where this isn't true.
-pub fn first_length(alloc: Global, words: &[Text], script: &[u8]) -> Result<Option<u32>, NoMemory> {
+pub fn first_length<R: Threads + Wait + Sync>(
+    rt: &R,
+    alloc: Global,
+    words: &[Text],
+    script: &[u8],
+) -> Result<Option<u32>, NoMemory> {
     let mut long = Bytes::new(alloc);
     long.extend(script)?;
     for _ in long.len()..=LONGEST_SCRIPT {
         long.push(b';')?;
     }
-    let end = run(alloc, words, long.as_slice(), 0, 0)?;
+    let end = run(rt, alloc, words, long.as_slice(), 0, 0)?;
     if end.status != Status::ScriptRefused {
         return Ok(Some(4_194_305));
     }

@@ -6,8 +6,11 @@ ghost use Rattle.cluster_model.specs.Step.{is_run};
 use grid_base::{Bytes, NoMemory, Text};
 use grid_event::Journal;
 use grid_io::{Calls, MemSink, MemSource};
-use grid_shell::{Status, run_plain};
+use grid_shell::Status;
+use node_workers::NoGate;
 use std::alloc::Global;
+use std::sync::Wait;
+use std::thread::Threads;
 
 /// How many bytes a source gives at a time.
 pub const READ: usize = 20;
@@ -35,7 +38,8 @@ impl End {
 
 /// Runs what the words say over a script, where one read and one write fail; 0 stands for none. It
 /// ends with a run of the cluster, whatever fails.
-pub fn run(
+pub fn run<R: Threads + Wait + Sync>(
+    rt: &R,
     alloc: Global,
     words: &[Text],
     script: &[u8],
@@ -49,7 +53,15 @@ pub fn run(
     let mut source = MemSource::new(bytes, READ, call(alloc, read_fails)?);
     let mut sink = MemSink::new(alloc, ROOM, WRITTEN, call(alloc, write_fails)?)?;
     let mut journal = Journal::new(alloc);
-    let status = run_plain(alloc, words, &mut source, &mut sink, &mut journal);
+    let status = grid_shell::run(
+        rt,
+        alloc,
+        words,
+        &mut source,
+        &mut sink,
+        &NoGate,
+        &mut journal,
+    );
     Ok(End {
         status,
         sink,
