@@ -34,6 +34,15 @@ expect 0 "$settings" "$grid" step <<<"$head"
 expect 0 "$settings" "$grid" step --form brief <<<"$head"
 expect 0 '{"calls":[],"keys":0,"nodes":[0],"topology":"NO_REBALANCE 0"}' "$grid" step --form=json <<<"$head"
 expect 0 'grid nodes 4 segments 64 owners 2 partition plain values int chunk 100' "$grid" gen 7 --steps=0 --keys 1 --form brief </dev/null
+live=${head/step/live}
+expect 0 "$settings" "$grid" live <<<"${live%$'\n'}"
+expect 0 "$settings" "$grid" live --workers 8 --form=brief <<<"${live%$'\n'}"
+expect 2 "$usage" "$grid" live --workers 9 <<<"${live%$'\n'}"
+expect 2 "$usage" "$grid" step --workers 2 <<<"$head"
+expect 3 'refused 1 OtherKind' "$grid" live <<<"$head"
+expect 3 'refused 1 OtherKind' "$grid" step <<<"$live"
+expect 3 'refused 8 Syntax' "$grid" live <<<"${live}tick 1"
+expect 4 '' "$grid" live <.
 expect 2 "$usage" "$grid" </dev/null
 expect 2 "$usage" "$grid" step --form briefs <<<"$head"
 expect 2 "$usage" "$grid" step --form brief full <<<"$head"
