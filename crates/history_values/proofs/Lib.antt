@@ -1,0 +1,5 @@
+pub mod Stood
+pub mod LeftLaws
+pub mod Leaving
+pub mod SlotLaws
+pub mod Deciding

@@ -1,0 +1,4 @@
+pub mod Dates
+pub mod Slots
+pub mod Decided
+pub mod Laws

@@ -1,0 +1,9 @@
+//! The values of a printed history, by its events alone: what stands at each key and since when,
+//! and when the values that left a key stood there last.
+#![tactic(auto)]
+
+mod laws;
+mod slot;
+
+pub use laws::{leaving_joins, slots_are_kept, slots_decide, standing_is_dated};
+pub use slot::Slot;
