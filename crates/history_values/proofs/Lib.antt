@@ -3,3 +3,7 @@ pub mod LeftLaws
 pub mod Leaving
 pub mod SlotLaws
 pub mod Deciding
+pub mod Trees
+pub mod DateLaws
+pub mod FirstLaws
+pub mod IndexLaws

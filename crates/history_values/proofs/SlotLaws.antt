@@ -20,7 +20,7 @@ use Rattle.segment_hash.specs.Segments.{segment_number}
 use Rattle.cluster_model.specs.Same.{same_option}
 use Rattle.history_values.specs.Dates.{is_value, stands_since, stood_last}
 use Rattle.history_values.specs.Laws.{SlotsAreKept}
-use Rattle.history_values.specs.Slots.{AreTold, AreUpTo, Follows, IsToldAt, Leave, Slots, dated_value, datum_cmp, place_or_none, places_or_none, has_value, is_due, is_going, key_cmp, leave, leave_all, left_at, note_slot, put, put_slot, same_key}
+use Rattle.history_values.specs.Slots.{AreTold, AreUpTo, Follows, IsToldAt, Leave, Slots, dated_value, datum_cmp, place_or_none, places_or_none, has_value, is_due, is_going, key_cmp, leave, leave_all, left_at, no_slots, note_slot, put, put_slot, same_key}
 use Rattle.history_values.specs.declared.slot.Slot.{Slot}
 use Rattle.history_values.proofs.LeftLaws.{note_slot_at, same_flipped, tied_keys}
 use Rattle.history_values.proofs.Leaving.{left_places, left_standing}
@@ -349,7 +349,7 @@ next_told config past (events.Done x) slots next f t key = quiet config past (ev
 next_told config past (events.Answer x) slots next f t key = quiet config past (events.Answer x) slots next key refl f (t key)
 
 -- no slots are those of no past
-first_told : (config : Config) → AreTold config [] (record { standing = map_of.empty; left = map_of.empty })
+first_told : (config : Config) → AreTold config [] no_slots
 unfolding entries_of
 first_told config key = record {
   stands = ap (option_map dated_value) (map_of.get-empty key_cmp key) ∙ sym (ap (option_map (since_of 0)) (map_of.get-empty key_cmp key));

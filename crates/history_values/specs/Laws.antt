@@ -1,13 +1,12 @@
 -- What the definitions are held to. Each of these is proved.
 use Rattle.std.specs.Prelude.{◌≡◌, ℕ, ◌≤◌, ◌||◌, Bool, false, List, [], ◌∷◌, length, Some}
-use Rattle.std.specs.FinMap as map_of
 use Rattle.grid_base.specs.declared.datum.Datum.{Datum}
 use Rattle.grid_event.specs.Maps.{value_at}
 use Rattle.grid_event.specs.declared.config.Config.{Config}
 use Rattle.grid_event.specs.declared.event.Event.{Event}
 use Rattle.cluster_model.specs.Evidence.{StoodOnce, StoodThroughout}
 use Rattle.history_values.specs.Dates.{invoked_at, stands_since, stood_last}
-use Rattle.history_values.specs.Slots.{AreTold, AreUpTo, Follows, Leave, Slots}
+use Rattle.history_values.specs.Slots.{AreTold, AreUpTo, Follows, Leave, Slots, no_slots}
 use Rattle.history_values.specs.declared.slot.Slot.{Slot}
 
 -- what stood throughout a call, and at some place of it, by dates
@@ -28,7 +27,7 @@ pub record StandingIsDated : Type 0 where
 -- no slots are those of no past; those of a past become those of the past with one event more; no value stands since a place
 -- that is still to come
 pub record SlotsAreKept : Type 0 where
-  pub first : (config : Config) → AreTold config [] (record { standing = map_of.empty; left = map_of.empty })
+  pub first : (config : Config) → AreTold config [] no_slots
   pub next :
     (config : Config) (past : List Event) (event : Event) (slots next : Slots) → Follows config past event slots next
     → AreTold config past slots → AreTold config (event ∷ past) next

@@ -1,6 +1,6 @@
 -- What stands at the keys and since when, and when the values that left stood last.
 use Rattle.std.specs.Prelude.{◌≡◌, ℕ, suc, ◌+◌, ◌≤◌, Bool, true, false, not, if◌then◌else◌, List, [], ◌∷◌, length, Option, None, Some, refl}
-use Rattle.std.specs.Coded.{Coded, code_by, coded×, coded_list, coded_ℕ}
+use Rattle.std.specs.Coded.{Coded, code_by, coded×}
 use Rattle.std.specs.FinMap as map_of
 use Rattle.std.specs.List.{list_any}
 use Rattle.std.specs.Option.{option_map}
@@ -47,6 +47,16 @@ pub record Slots : Type 0 where
   pub standing : Standing
   pub left : Left
 
+-- slots are stored as the pair of their fields
+abbrev pub slots_code : Coded Standing → Coded Left → Coded Slots
+slots_code standing left =
+    code_by (Standing × Left) (coded× standing left) (λ slots. (slots.standing, slots.left))
+    (λ p. record { standing = p.0; left = p.1 }) (λ _. refl)
+
+-- nothing stands, and nothing has left
+abbrev pub no_slots : Slots
+no_slots = record { standing = map_of.empty; left = map_of.empty }
+
 -- the place that is noted, 0 where none is
 abbrev pub place_or_none : Option ℕ → ℕ
 place_or_none None = 0
@@ -86,12 +96,15 @@ has_value None datum = false
 has_value (Some slot) datum = same_datum slot.stamped.value datum
 
 -- what stands once a value is put behind this place: where it is the one that stands, only its deadline is another
+abbrev pub written_slot : ℕ → ℕ → Stamped → Slot
+written_slot place segment stamped = record { stamped = stamped; segment = segment; since = suc place }
+
 abbrev pub put_slot : ℕ → ℕ → Stamped → Option Slot → Slot
-put_slot place segment stamped None = record { stamped = stamped; segment = segment; since = suc place }
+put_slot place segment stamped None = written_slot place segment stamped
 put_slot place segment stamped (Some slot) =
     if same_datum slot.stamped.value stamped.value
     then record slot { stamped = stamped }
-    else record { stamped = stamped; segment = segment; since = suc place }
+    else written_slot place segment stamped
 
 -- a value is put at a key of this segment behind this place, at which the value that it replaces stood last
 abbrev pub put : ℕ → ℕ → List ℕ → Stamped → Slots → Slots
