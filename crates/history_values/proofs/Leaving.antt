@@ -1,11 +1,13 @@
 -- What is left of the slots when keys leave.
-use Rattle.std.proofs.Common.{◌≡◌, ℕ, Bool, true, false, ◌&&◌, ◌||◌, cond, if◌then◌else◌, List, [], ◌∷◌, ◌++◌, Option, Some, None, refl, sym, ap, ◌∙◌}
+use Rattle.std.proofs.Common.{◌≡◌, ℕ, zero, suc, ◌-◌, ◌<◌, Bool, true, false, ◌&&◌, ◌||◌, cond, if◌then◌else◌, List, [], ◌∷◌, ◌++◌, Option, Some, None, is_some, refl, sym, ap, ◌∙◌, arith}
 use Rattle.std.proofs.lemmas.Cmp.{nat_list_cmp_total}
 use Rattle.std.specs.FinMap as map_of
 use Rattle.std.specs.List.{list_any}
 use Rattle.grid_base.specs.declared.datum.Datum.{Datum}
 use Rattle.history_values.specs.Laws.{LeavingJoins}
-use Rattle.history_values.specs.Slots.{Leave, LeaveSome, Slots, has_value, is_going, leave, leave_all, left_at, same_key}
+use Rattle.std.proofs.lemmas.Map.Lookups.{exact_bytes}
+use Rattle.history_values.proofs.Trees.{remove_absent}
+use Rattle.history_values.specs.Slots.{key_cmp, note_slot, Leave, LeaveSome, Slots, has_value, is_going, leave, leave_all, left_at, same_key}
 use Rattle.history_values.specs.declared.slot.Slot.{Slot}
 use Rattle.history_values.proofs.LeftLaws.{note_slot_at, tied_keys}
 
@@ -141,3 +143,22 @@ leaving_joins = record {
         let after : map_of.get middle.standing key ≡ cond (is_going first (map_of.get slots.standing key)) None (map_of.get slots.standing key) =
             ap (λ (s : Slots). map_of.get s.standing key) a.2 ∙ left_standing place a.0 slots key ∙ ap (λ b. cond b None (map_of.get slots.standing key)) (a.1 key) in
         (λ i. a.1 key i || (b.1 key ∙ ap (is_going second) after) i) ∙ ways first second (map_of.get slots.standing key)
+
+-- a key that isn't there leaves: nothing changes
+pub leave_absent : (place : ℕ) (key : List ℕ) (slots : Slots) → map_of.get slots.standing key ≡ None → slots ≡ leave place key slots
+leave_absent place key slots none = λ i. record {
+  standing = sym (remove_absent nat_list_cmp_total exact_bytes slots.standing key none) i;
+  left = sym (ap (λ o. note_slot place key o slots.left) none) i;
+}
+
+-- a key that is there leaves: fewer stand
+pub fewer : (place : ℕ) (key : List ℕ) (slots : Slots) (slot : Slot) → map_of.get slots.standing key ≡ Some slot → map_of.len (leave place key slots).standing < map_of.len slots.standing
+fewer place key slots slot there =
+    let less : map_of.len (leave place key slots).standing ≡ map_of.len slots.standing - 1 =
+        map_of.len-remove nat_list_cmp_total slots.standing key ∙ ap (λ o. cond (is_some o) (map_of.len slots.standing - 1) (map_of.len slots.standing)) there in
+    let some = positive (map_of.len slots.standing) refl in
+    omega arith
+  where
+    positive : (n : ℕ) → map_of.len slots.standing ≡ n → 0 < n
+    positive zero e = let no_one : None ≡ Some slot = sym (ap (λ m. map_of.get m key) (map_of.empty_of_len slots.standing e) ∙ map_of.get-empty key_cmp key) ∙ there in absurd (cc)
+    positive (suc n) e = omega arith

@@ -7,3 +7,5 @@ pub mod Trees
 pub mod DateLaws
 pub mod FirstLaws
 pub mod IndexLaws
+pub mod ValueLaws
+pub mod Finding
