@@ -1,5 +1,5 @@
 -- The orders of dates and of deadlines are total, and only equal ones tie.
-use Rattle.std.proofs.Common.{◌≡◌, sym, ap, ◌∙◌}
+use Rattle.std.proofs.Common.{ap, ◌∙◌}
 use Rattle.std.proofs.lemmas.Bool.{and_parts}
 use Rattle.std.specs.Cmp.{IsTotalOrder, then_total, on_total, tied_then, Equal-is, nat_cmp_total}
 use Rattle.std.specs.FinMap.{IsAntisymmetric, nat_cmp-IsAntisymmetric}

@@ -1,5 +1,5 @@
 -- The slots decide what is stable and held, and the entries how often a key is among them.
-use Rattle.std.proofs.Common.{◌≡◌, ℕ, suc, ◌+◌, ◌≤◌, ◌⊎◌, ◌↔◌, Bool, true, false, cond, if◌then◌else◌, inl, inr, List, [], ◌∷◌, length, Option, None, Some, refl, sym, ap, subst, ◌∙◌, arith}
+use Rattle.std.proofs.Common.{◌≡◌, ℕ, ◌+◌, ◌≤◌, ◌⊎◌, ◌↔◌, Bool, true, false, cond, inl, inr, List, [], ◌∷◌, Option, None, Some, refl, sym, ap, subst, ◌∙◌, arith}
 use Rattle.std.specs.FinMap as map_of
 use Rattle.std.specs.List.{AllByRecursion}
 use Rattle.std.specs.Option.{option_map}
@@ -12,7 +12,6 @@ use Rattle.grid_event.specs.Maps.{entries_of, value_at}
 use Rattle.grid_event.specs.Spans.{span_end}
 use Rattle.grid_event.specs.declared.config.Config.{Config}
 use Rattle.grid_event.specs.declared.event.Event.{Event}
-use Rattle.segment_hash.specs.Segments.{segment_number}
 use Rattle.cluster_model.specs.Evidence.{Held, Stable, StoodOnce, StoodThroughout, times}
 use Rattle.history_values.specs.Dates.{invoked_at, is_value, stands_since, stood_last}
 use Rattle.history_values.specs.Decided.{EachOld, EachStable, SlotsDecide}

@@ -1,5 +1,5 @@
 -- The first deadline, and the first date of a segment from a place on.
-use Rattle.std.proofs.Common.{Less, Equal, Greater, IsSome, is_some, IfSome, slice_get, ◌≡◌, ℕ, ◌≤◌, ◌<◌, ◌+◌, Bool, true, false, List, [], ◌∷◌, length, Option, Some, None, refl, sym, ap, subst, ◌∙◌, arith, inl, inr}
+use Rattle.std.proofs.Common.{Less, Equal, Greater, IsSome, IfSome, slice_get, ◌≡◌, ℕ, ◌≤◌, ◌<◌, true, false, List, [], ◌∷◌, length, Some, refl, sym, ap, subst, ◌∙◌, arith, inl, inr}
 use Rattle.std.proofs.lemmas.Map.Keys.{le_from_is_le, le_from_not_gt}
 use Rattle.std.proofs.lemmas.Bool.{cases_lt}
 use Rattle.std.proofs.lemmas.Bool.Decides.{nat_tests}

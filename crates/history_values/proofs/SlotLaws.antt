@@ -1,5 +1,5 @@
 -- The slots after an event are those of the past with it.
-use Rattle.std.proofs.Common.{Equal, ◌≡◌, ℕ, suc, ◌+◌, ◌≤◌, Bool, true, false, not, ◌&&◌, cond, if◌then◌else◌, List, [], ◌∷◌, length, Option, None, Some, refl, sym, ap, subst, ◌∙◌, arith}
+use Rattle.std.proofs.Common.{◌≡◌, ℕ, suc, ◌+◌, ◌≤◌, Bool, true, false, not, ◌&&◌, cond, if◌then◌else◌, List, [], ◌∷◌, length, Option, None, Some, refl, sym, ap, subst, ◌∙◌}
 use Rattle.std.specs.FinMap as map_of
 use Rattle.std.specs.List.{list_any}
 use Rattle.std.specs.Option.{option_map}
@@ -20,7 +20,7 @@ use Rattle.segment_hash.specs.Segments.{segment_number}
 use Rattle.cluster_model.specs.Same.{same_option}
 use Rattle.history_values.specs.Dates.{is_value, stands_since, stood_last}
 use Rattle.history_values.specs.Laws.{SlotsAreKept}
-use Rattle.history_values.specs.Slots.{AreTold, AreUpTo, Follows, IsToldAt, Leave, Slots, dated_value, datum_cmp, place_or_none, places_or_none, has_value, is_due, is_going, key_cmp, leave, leave_all, left_at, no_slots, note_slot, put, put_slot, same_key}
+use Rattle.history_values.specs.Slots.{AreTold, Follows, IsToldAt, Leave, Slots, dated_value, datum_cmp, place_or_none, places_or_none, has_value, is_due, is_going, key_cmp, leave, leave_all, left_at, no_slots, note_slot, put, put_slot, same_key}
 use Rattle.history_values.specs.declared.slot.Slot.{Slot}
 use Rattle.history_values.proofs.LeftLaws.{note_slot_at, same_flipped, tied_keys}
 use Rattle.history_values.proofs.Leaving.{left_places, left_standing}

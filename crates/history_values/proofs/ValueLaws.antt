@@ -1,19 +1,18 @@
 -- The dates are those of the slots, whatever is put and whatever leaves; and what the dates find is what the slots have.
-use Rattle.std.proofs.Common.{◌≡◌, ℕ, suc, ◌==◌, ◌<◌, ◌≤◌, Bool, true, false, cond, List, Option, Some, None, refl, sym, ap, subst, ◌∙◌, arith}
-use Rattle.std.proofs.lemmas.Bool.{eq-eqb, eqb-true}
+use Rattle.std.proofs.Common.{◌≡◌, ℕ, suc, ◌≤◌, Bool, true, false, cond, List, Option, Some, None, refl, sym, ap, subst, ◌∙◌, arith}
 use Rattle.std.proofs.lemmas.Cmp.{eq_by_cmp_equiv, nat_list_cmp_total}
 use Rattle.std.proofs.lemmas.Map.Lookups.{exact_bytes}
 use Rattle.std.specs.FinMap as map
-use Rattle.history_values.specs.Index.{ByDate, DatesAre, IsDue, IsNext, date_cmp, date_of, dated_of}
-use Rattle.history_values.specs.Old.{FindsGoing, IsOld, IsOldest}
-use Rattle.history_values.specs.Slots.{AreUpTo, Slots, Standing, is_due, key_cmp, same_key}
+use Rattle.grid_base.specs.declared.stamped.Stamped.{Stamped}
+use Rattle.history_values.specs.Index.{ByDate, DatesAre, date_cmp, date_of, dated_of}
+use Rattle.history_values.specs.Slots.{AreUpTo, Left, Slots, Standing, key_cmp, same_key, written_slot}
 use Rattle.history_values.specs.declared.slot.Slot.{Slot}
 use Rattle.history_values.specs.declared.dates.Date.{Date}
 use Rattle.history_values.specs.declared.dates.Dated.{Dated}
 use Rattle.history_values.proofs.DateLaws.{dates_total, exact_dates}
 use Rattle.history_values.proofs.IndexLaws.{same_date, tied_dates}
 use Rattle.history_values.proofs.LeftLaws.{tied_keys}
-use Rattle.history_values.proofs.Trees.{get_put, insert_removed, remove_other}
+use Rattle.history_values.proofs.Trees.{get_put, insert_removed, remove_inserted, remove_other}
 
 -- what is there, or this
 abbrev or_this : {A : Type 0} → A → Option A → A
@@ -164,3 +163,14 @@ dates_move s d are key slot next here free =
 
     differ : same_date (date_of next) (date_of slot) ≡ false
     differ = by_date (same_date (date_of next) (date_of slot)) refl
+
+-- since the date of a value that is written, nothing stands yet
+pub nothing_yet : (s : Standing) (d : ByDate) (left : Left) → DatesAre s d → (place segment : ℕ) (stamped : Stamped) (slots : Slots) → record { standing = s; left = left } ≡ slots → AreUpTo place slots →
+    (slot : Slot) → slot ≡ written_slot place segment stamped → (date : Date) → date ≡ date_of slot → map.get d date ≡ None
+nothing_yet s d left are place segment stamped slots is up_to slot written date since =
+    nothing_since s d are place (λ key slot there. up_to key slot (ap (λ (v : Slots). map.get v.standing key) (sym is) ∙ there)) date
+    (ap (λ (x : Date). x.since) since ∙ ap (λ (x : Slot). x.since) written)
+
+-- what is noted and taken out again
+pub dates_undone : (d : ByDate) (date : Date) (dated : Dated) → map.get d date ≡ None → map.remove (map.insert d date dated) date ≡ d
+dates_undone d date dated none = remove_inserted dates_total exact_dates d date dated none

@@ -1,9 +1,9 @@
-use Rattle.std.proofs.Common.{◌≡◌, IsSome, refl, subst, ap, sym, ◌∙◌, cond, Some}
+use Rattle.std.proofs.Common.{IsSome, refl, subst, ap, sym, ◌∙◌, cond, Some}
 use Rattle.std.proofs.lemmas.Cmp.{nat_list_cmp_total}
 use Rattle.std.proofs.lemmas.Map.Lookups.{exact_bytes}
 use Rattle.std.specs.BTreeMap.{get, is_at}
 use Rattle.std.specs.FinMap as map
-use Rattle.history_values.specs.Slots.{Places, key_cmp, note, places_or_none}
+use Rattle.history_values.specs.Slots.{key_cmp, note, places_or_none}
 use Rattle.history_values.proofs.Trees.{get_tree, insert_same, on_err_weaker, on_ok_weaker, tree_insert}
 use Rattle.history_values.proofs.left.Left.note.Goals as goal
 

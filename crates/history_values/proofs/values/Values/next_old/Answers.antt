@@ -1,4 +1,4 @@
-use Rattle.std.proofs.Common.{◌≡◌, ℕ, List, subst, sym, ◌∙◌}
+use Rattle.std.proofs.Common.{ℕ, List, subst, sym}
 use Rattle.history_values.specs.Old.{IsOld, IsOldest}
 use Rattle.history_values.specs.declared.slot.Slot.{Slot}
 use Rattle.history_values.proofs.Finding.{none_old, oldest, too_young}
