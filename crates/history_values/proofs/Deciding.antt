@@ -124,6 +124,7 @@ often_all all most (e ∷ some) each key = by_key (same_bytes e.key key) refl (o
     by_key false other (inl none) = inl (omega arith)
     by_key false other (inr most) = inr most
 
+-- the four laws
 pub decided : SlotsDecide
 decided = record {
   stable = λ config past call slots within asked told whole. (old_stable config past call slots within asked told whole, stable_old config past call slots within asked told whole);

@@ -5,16 +5,13 @@ use Rattle.std.specs.FinMap as map
 use Rattle.grid_event.specs.Maps.{is_ahead}
 use Rattle.history_values.specs.Index.{ByDate, DatesAre, IsDue, IsNext, date_of, dated_of}
 use Rattle.history_values.specs.Old.{FindsGoing, IsOld, IsOldest}
-use Rattle.history_values.specs.Slots.{Left, Slots, Standing, is_due}
+use Rattle.history_values.specs.Slots.{Left, Standing, is_due}
 use Rattle.history_values.specs.declared.slot.Slot.{Slot}
 use Rattle.history_values.specs.declared.dates.Date.{Date}
 use Rattle.history_values.specs.declared.dates.Dated.{Dated}
 use Rattle.history_values.proofs.ValueLaws.{one}
 
 module _ (s : Standing) (d : ByDate) (left : Left) (are : DatesAre s d) where
-  abbrev slots : Slots
-  slots = record { standing = s; left = left }
-
   -- a key that is due
   pub due_found : (clock : ℕ) (o : Option (List ℕ)) → IsDue d clock o → FindsGoing (is_due clock) (record { standing = s; left = left }) o
   due_found clock None none = λ key slot there. ap not (none (date_of slot) (dated_of key slot) (are.listed key slot there))

@@ -26,19 +26,21 @@ first_le a b r h = by_order (nat_cmp a b) refl h
     by_order Equal e h = le_from_is_le a b (ap is_le e)
     by_order Greater e h = absurd (cc)
 
--- a number that is at most another isn't above it, and none is above itself
+-- a number that is at most another isn't above it
 not_above : (a b : ℕ) → a ≤ b → is_gt (nat_cmp a b) ≡ false
 not_above a b h = grind (arith, nat_tests)
 
+-- a number ties with itself
 itself : (a : ℕ) → nat_cmp a a ≡ Equal
 itself a = grind (arith, nat_tests)
 
--- dates of one segment are in the order of their places
+-- dates of one segment are in the order of their places, read either way
 since_le : (a b : Date) → a.segment ≡ b.segment → is_gt (date_cmp a b) ≡ false → a.since ≤ b.since
 since_le a b same h =
     le_from_not_gt a.since b.since
     (sym (ap (λ o. is_gt (ordering_then o (nat_cmp a.since b.since))) (ap (nat_cmp a.segment) (sym same) ∙ itself a.segment)) ∙ h)
 
+-- the other way
 le_since : (a b : Date) → a.segment ≡ b.segment → a.since ≤ b.since → is_gt (date_cmp a b) ≡ false
 le_since a b same h =
     ap (λ o. is_gt (ordering_then o (nat_cmp a.since b.since))) (ap (nat_cmp a.segment) (sym same) ∙ itself a.segment) ∙ not_above a.since b.since h

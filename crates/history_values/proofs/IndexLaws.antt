@@ -17,9 +17,11 @@ use Rattle.history_values.proofs.Trees.{insert_same, remove_absent, remove_inser
 abbrev pub same_date : Date → Date → Bool
 same_date = eq_by_cmp date_cmp
 
+-- dates that are the same are equal
 pub tied_dates : (d e : Date) → same_date d e ≡ true → d ≡ e
 tied_dates d e same = exact_dates d e ((Equal-is (date_cmp d e)).0 same)
 
+-- a deadline at a date
 abbrev deadline : ℕ → Date → Deadline
 deadline until date = record { until = until; date = date }
 
@@ -141,6 +143,7 @@ same_deadline None (Some n) e = absurd (cc)
 same_deadline (Some m) None e = absurd (cc)
 same_deadline (Some m) (Some n) e = ap Some (eqb-true m n e)
 
+-- and whether they aren't
 pub other_deadline : (a b : Option ℕ) → option_eq nat_eq a b ≡ false → a ≡ b → ⊥
 other_deadline a b e same = let no_one : true ≡ false = sym (itself b) ∙ ap (λ o. option_eq nat_eq o b) (sym same) ∙ e in absurd (cc)
   where

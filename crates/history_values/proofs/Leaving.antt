@@ -67,10 +67,6 @@ among_more test (key ∷ keys) more = ap (λ b. test key || b) (among_more test 
     either true b c = refl
     either false b c = refl
 
--- no key leaves
-pub none_left : (place : ℕ) (goes : Slot → Bool) (slots : Slots) → LeaveSome place goes slots slots
-none_left place goes slots = ([], λ key among. absurd (cc), refl)
-
 -- a key is gone once it has left
 gone_where : (b : Bool) (o : Option Slot) (slot : Slot) → cond b None o ≡ Some slot → (b ≡ false) × (o ≡ Some slot)
 gone_where true o slot e = absurd (cc)

@@ -63,6 +63,7 @@ has_dated (Some slot) (Some now) since datum e = ap (λ (v : Datum). same_datum 
 has_dated None (Some now) since datum e = absurd (cc)
 has_dated (Some slot) None since datum e = absurd (cc)
 
+-- so the slots have the value that stands
 pub value_is : (config : Config) (past : List Event) (slots : Slots) (key : List ℕ) → IsToldAt config past slots key → (datum : Datum) →
     has_value (map_of.get slots.standing key) datum ≡ is_value (value_at config past key) datum
 value_is config past slots key t datum = has_dated (map_of.get slots.standing key) (map_of.get (entries_of config past) key) (stands_since config past key) datum t.stands
@@ -132,9 +133,6 @@ one_leaves : (config : Config) (past : List Event) (e : EraseEvent) (slots : Slo
 unfolding entries_of
 one_leaves config past e slots key t = by_key (same_key key e.key) refl
   where
-    place : ℕ
-    place = length past
-
     noted : (b : Bool) → same_key key e.key ≡ b → (datum : Datum) →
         left_at (leave (length past) e.key slots).left key datum ≡ (if b && has_value (map_of.get slots.standing e.key) datum then length past else left_at slots.left key datum)
     noted b same datum =
@@ -191,9 +189,6 @@ one_put : (config : Config) (past : List Event) (w : WriteEvent) (segment : ℕ)
 unfolding entries_of
 one_put config past w segment slots key found t = by_key (same_key key w.key) refl
   where
-    stamped : Stamped
-    stamped = record { value = w.value; until = w.until }
-
     stands_at : (b : Bool) → same_key key w.key ≡ b →
         map_of.get (put (length past) segment w.key (record { value = w.value; until = w.until }) slots).standing key
         ≡ cond b (Some (put_slot (length past) segment (record { value = w.value; until = w.until }) (map_of.get slots.standing w.key))) (map_of.get slots.standing key)
@@ -307,6 +302,7 @@ lost_is config past node found (Some slot) (Some now) since told e =
 lost_is config past node found None (Some now) since told e = absurd (cc)
 lost_is config past node found (Some slot) None since told e = absurd (cc)
 
+-- an event that changes nothing of the map
 quiet : (config : Config) (past : List Event) (event : Event) (slots next : Slots) (key : List ℕ) → map_of.get (entries_of config (event ∷ past)) key ≡ map_of.get (entries_of config past) key →
     next ≡ slots → IsToldAt config past slots key → IsToldAt config (event ∷ past) next key
 quiet config past event slots next key same f t =
@@ -372,6 +368,7 @@ since_is (Some other) (Some now) since slot e there = ap sinces (sym there) ∙ 
     sinces None = since
     sinces (Some s) = s.since
 
+-- the three laws
 pub slots_kept : SlotsAreKept
 slots_kept = record {
   first = first_told;

@@ -25,14 +25,17 @@ same_is_one (Some a) (Some b) e = ap (λ (d : Datum). Some d) ((same_datum_decid
 same_is_one None (Some b) e = absurd (cc)
 same_is_one (Some a) None e = absurd (cc)
 
+-- each is the same as itself
 same_itself : (a : Option Datum) → same_option same_datum a a ≡ true
 same_itself None = refl
 same_itself (Some a) = (same_datum_decides a a).1 refl
 
+-- what is found is the value where it is this one
 is_that_value : (found : Option Datum) (datum : Datum) → is_value found datum ≡ true → found ≡ Some datum
 is_that_value None datum e = absurd (cc)
 is_that_value (Some other) datum e = ap (λ (d : Datum). Some d) ((same_datum_decides other datum).0 e)
 
+-- and the other way round
 value_is_that : (found : Option Datum) (datum : Datum) → found ≡ Some datum → is_value found datum ≡ true
 value_is_that found datum e = ap (λ o. is_value o datum) e ∙ (same_datum_decides datum datum).1 refl
 
@@ -41,10 +44,12 @@ pub none_first : (config : Config) (key : List ℕ) → value_at config [] key �
 unfolding entries_of
 none_first config key = ap (option_map (λ (stamped : Stamped). stamped.value)) (map_of.get-empty (slice_cmp nat_cmp) key)
 
+-- a choice of two numbers is at most what both are
 cond_at_most : (b : Bool) (a n m : ℕ) → a ≤ m → n ≤ m → cond b a n ≤ m
 cond_at_most true a n m h g = h
 cond_at_most false a n m h g = g
 
+-- places are at most the number of events
 pub invoked_within : (past : List Event) (call : ℕ) → invoked_at past call ≤ length past
 invoked_within [] call = omega arith
 invoked_within (event ∷ past) call =

@@ -92,29 +92,22 @@ module _ {K X : Type 0} {R : K → K → Ordering} (total : IsTotalOrder R) (exa
       by_key q true same = sym (ap (λ b. cond b None (Some v)) ((eq_by_cmp_equiv total).congr q k j same ∙ differ))
       by_key q false other = refl
 
--- what holds holds where there is an error, and where there is none
-pub on_err : {V E A : Type 0} (r : Result V E) → A → OnErr r A
-on_err (Ok v) a = tt
-on_err (Err e) a = a
-
-pub on_ok : {V E A : Type 0} (r : Result V E) → A → OnOk r A
-on_ok (Ok v) a = a
-on_ok (Err e) a = tt
-
--- what follows from what holds where there is an error, and where there is none
+-- what follows from what holds where there is an error
 pub on_err_weaker : {V E A B : Type 0} (r : Result V E) → (A → B) → OnErr r A → OnErr r B
 on_err_weaker (Ok v) f h = tt
 on_err_weaker (Err e) f h = f h
 
+-- the same where there is none
 pub on_ok_weaker : {V E A B : Type 0} (r : Result V E) → (A → B) → OnOk r A → OnOk r B
 on_ok_weaker (Ok v) f h = f h
 on_ok_weaker (Err e) f h = tt
 
--- what holds where there is an error, and where there is none
+-- what holds where there is an error holds of one
 pub at_err : {V E A : Type 0} (r : Result V E) → is_err r ≡ true → OnErr r A → A
 at_err (Ok v) e h = absurd (cc)
 at_err (Err e) is h = h
 
+-- and what holds where there is none holds where there is none
 pub at_ok : {V E A : Type 0} (r : Result V E) → is_err r ≡ false → OnOk r A → A
 at_ok (Ok v) is h = h
 at_ok (Err e) is h = absurd (cc)

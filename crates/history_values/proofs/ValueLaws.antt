@@ -1,4 +1,4 @@
--- The dates are those of the slots, whatever is put and whatever leaves; and what the dates find is what the slots have.
+-- The dates are those of the slots, whatever is put and whatever leaves.
 use Rattle.std.proofs.Common.{◌≡◌, ℕ, suc, ◌≤◌, Bool, true, false, cond, List, Option, Some, None, refl, sym, ap, subst, ◌∙◌, arith}
 use Rattle.std.proofs.lemmas.Cmp.{eq_by_cmp_equiv, nat_list_cmp_total}
 use Rattle.std.proofs.lemmas.Map.Lookups.{exact_bytes}
@@ -28,10 +28,11 @@ not_none : {A : Type 0} (b : Bool) (o : Option A) (x : A) → cond b None o ≡ 
 not_none true o x e = absurd (cc)
 not_none false o x e = (refl, e)
 
--- keys and dates are the same as themselves
+-- a key is the same as itself
 same_keys : (k : List ℕ) → same_key k k ≡ true
 same_keys k = (eq_by_cmp_equiv nat_list_cmp_total).refl k
 
+-- and a date
 same_dates : (d : Date) → same_date d d ≡ true
 same_dates d = (eq_by_cmp_equiv dates_total).refl d
 
@@ -131,10 +132,11 @@ module _ (s : Standing) (d : ByDate) (are : DatesAre s d) where
               absurd (cc)
           by_key sl has is false other = has
 
-  -- what is taken out stands no longer, and nothing since its date
+  -- what is taken out stands no longer
   gone_key : (key : List ℕ) → map.get (map.remove s key) key ≡ None
   gone_key key = map.get-remove nat_list_cmp_total s key key ∙ ap (λ b. cond b None (map.get s key)) (same_keys key)
 
+  -- and nothing since its date
   gone_date : (date : Date) → map.get (map.remove d date) date ≡ None
   gone_date date = map.get-remove dates_total d date date ∙ ap (λ b. cond b None (map.get d date)) (same_dates date)
 

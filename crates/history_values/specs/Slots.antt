@@ -43,6 +43,7 @@ Places = map_of.FinMap datum_cmp ℕ
 abbrev pub Left : Type 0
 Left = map_of.FinMap key_cmp Places
 
+-- what stands, and what left
 pub record Slots : Type 0 where
   pub standing : Standing
   pub left : Left
@@ -57,7 +58,7 @@ slots_code standing left =
 abbrev pub no_slots : Slots
 no_slots = record { standing = map_of.empty; left = map_of.empty }
 
--- the place that is noted, 0 where none is
+-- the place that is noted, 0 where none is, and all that are
 abbrev pub place_or_none : Option ℕ → ℕ
 place_or_none None = 0
 place_or_none (Some place) = place
@@ -95,10 +96,11 @@ abbrev pub has_value : Option Slot → Datum → Bool
 has_value None datum = false
 has_value (Some slot) datum = same_datum slot.stamped.value datum
 
--- what stands once a value is put behind this place: where it is the one that stands, only its deadline is another
+-- a value that is written behind this place stands since the next one
 abbrev pub written_slot : ℕ → ℕ → Stamped → Slot
 written_slot place segment stamped = record { stamped = stamped; segment = segment; since = suc place }
 
+-- what stands once it is written: where it is the value that stands, only its deadline is another
 abbrev pub put_slot : ℕ → ℕ → Stamped → Option Slot → Slot
 put_slot place segment stamped None = written_slot place segment stamped
 put_slot place segment stamped (Some slot) =

@@ -7,7 +7,6 @@ ghost use Rattle.history_values.specs.Old.{FindsGoing, IsOld, IsOldest};
 ghost use Rattle.history_values.specs.Slots.{AreUpTo, Leave, LeaveSome, has_value, is_due, leave, left_at, no_slots, put, written_slot};
 ghost use Rattle.history_values.specs.declared.slot.Slot.{Slot};
 
-use crate::dates::{Date, Dated};
 use crate::left::Left;
 use crate::slot::Slot;
 use crate::slot_index::SlotIndex;
