@@ -30,7 +30,11 @@ static int is_next(int which, unsigned long number) {
     return __atomic_add_fetch(&counts[which], 1, __ATOMIC_RELAXED) == number;
 }
 
-static int is_refused(void) { return is_next(0, refused); }
+static int is_refused(void) {
+    if (!is_next(0, refused)) return 0;
+    errno = ENOMEM;
+    return 1;
+}
 
 void *malloc(size_t size) { return is_refused() ? NULL : __libc_malloc(size); }
 

@@ -33,7 +33,7 @@ pub fn told_part<R: Files + AllocGlobal>(rt: &R, line: &str) -> Result<String> {
     let script = fields.next().context("a part without a script")?;
     let moment = moment_of(line)?;
     let script = script_bytes(rt, script)?;
-    Ok(if books(alloc, script.as_slice(), moment)? {
+    Ok(if books(alloc, script.as_slice(), &moment)? {
         format!(in alloc; "{name} same")?
     } else {
         format!(in alloc; "{name} differs")?
@@ -58,13 +58,14 @@ fn moment_of(line: &str) -> Result<Moment> {
 
 /// Whether that is booked at the moment of a run of the script: where each end of a unit was applied
 /// as it is, and where it was handed the piece that was made of the unit.
-fn books(alloc: Global, script: &[u8], moment: Moment) -> Result<bool> {
+fn books(alloc: Global, script: &[u8], moment: &Moment) -> Result<bool> {
     let journal = journal_of(alloc, script)?;
-    let applied = core_after(alloc, &journal, moment.place)?;
+    let place = moment.place;
+    let applied = core_after(alloc, &journal, place)?;
     if !is_booked(&applied, moment) {
         return Ok(false);
     }
-    let handed = core_handed(alloc, &journal, moment.place)?;
+    let handed = core_handed(alloc, &journal, place)?;
     Ok(is_booked(&handed, moment))
 }
 
@@ -94,7 +95,7 @@ fn count_of(kind: &str, field: Option<&str>) -> Result<Option<u32>> {
 }
 
 /// Whether just that is booked in the core.
-fn is_booked(core: &Core, moment: Moment) -> bool {
+fn is_booked(core: &Core, moment: &Moment) -> bool {
     match (core.part(moment.call, moment.segment), moment.count) {
         (None, None) => true,
         (Some(Piece::Count(booked)), Some(count)) => *booked == u64::from(count),
