@@ -114,16 +114,17 @@ leaving_joins = record {
   none = λ place slots. ([], λ key. nothing (map_of.get slots.standing key), refl);
   either = λ place first second slots middle next a b.
       (a.0 ++ b.0, λ key. among_more (same_key key) a.0 b.0 ∙ together place first second slots middle a b key, b.2 ∙ ap (leave_all place b.0) a.2 ∙ sym (leave_more place a.0 b.0 slots));
-  same = λ place goes others slots next alike a. (a.0, λ key. a.1 key ∙ by_slot goes others alike (map_of.get slots.standing key), a.2);
+  same = λ place goes others slots next alike a. (a.0, λ key. a.1 key ∙ by_slot goes others slots alike key (map_of.get slots.standing key) refl, a.2);
 }
   where
     nothing : (o : Option Slot) → false ≡ is_going (λ _. false) o
     nothing None = refl
     nothing (Some slot) = refl
 
-    by_slot : (goes others : Slot → Bool) → ((slot : Slot) → goes slot ≡ others slot) → (o : Option Slot) → is_going goes o ≡ is_going others o
-    by_slot goes others alike None = refl
-    by_slot goes others alike (Some slot) = alike slot
+    by_slot : (goes others : Slot → Bool) (slots : Slots) → ((key : List ℕ) (slot : Slot) → map_of.get slots.standing key ≡ Some slot → goes slot ≡ others slot) →
+        (key : List ℕ) (o : Option Slot) → map_of.get slots.standing key ≡ o → is_going goes o ≡ is_going others o
+    by_slot goes others slots alike key None e = refl
+    by_slot goes others slots alike key (Some slot) e = alike key slot e
 
     ways : (first second : Slot → Bool) (o : Option Slot) → (is_going first o || is_going second (cond (is_going first o) None o)) ≡ is_going (λ slot. first slot || second slot) o
     ways first second None = refl

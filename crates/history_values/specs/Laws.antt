@@ -1,5 +1,6 @@
 -- What the definitions are held to. Each of these is proved.
 use Rattle.std.specs.Prelude.{◌≡◌, ℕ, ◌≤◌, ◌||◌, Bool, false, List, [], ◌∷◌, length, Some}
+use Rattle.std.specs.FinMap as map_of
 use Rattle.grid_base.specs.declared.datum.Datum.{Datum}
 use Rattle.grid_event.specs.Maps.{value_at}
 use Rattle.grid_event.specs.declared.config.Config.{Config}
@@ -34,12 +35,13 @@ pub record SlotsAreKept : Type 0 where
   pub up_to : (config : Config) (past : List Event) (slots : Slots) → AreTold config past slots → AreUpTo (length past) slots
 
 -- where no keys leave, the slots stay; keys that leave by one test and then by another leave by either of them; and it
--- matters only which slots a test takes
+-- matters only which of the slots that stand a test takes
 pub record LeavingJoins : Type 0 where
   pub none : (place : ℕ) (slots : Slots) → Leave place (λ _. false) slots slots
   pub either :
     (place : ℕ) (first second : Slot → Bool) (slots middle next : Slots) → Leave place first slots middle
     → Leave place second middle next → Leave place (λ slot. first slot || second slot) slots next
   pub same :
-    (place : ℕ) (goes others : Slot → Bool) (slots next : Slots) → ((slot : Slot) → goes slot ≡ others slot)
+    (place : ℕ) (goes others : Slot → Bool) (slots next : Slots)
+    → ((key : List ℕ) (slot : Slot) → map_of.get slots.standing key ≡ Some slot → goes slot ≡ others slot)
     → Leave place goes slots next → Leave place others slots next
