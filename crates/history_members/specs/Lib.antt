@@ -1,0 +1,4 @@
+pub mod Cells
+pub mod Dates
+pub mod Told
+pub mod Laws
