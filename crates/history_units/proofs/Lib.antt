@@ -1,0 +1,9 @@
+pub mod Gone
+pub mod Numbering
+pub mod Keeping
+pub mod Events
+pub mod Asking
+pub mod Others
+pub mod ScanLaws
+pub mod AskLaws
+pub mod OpenUnits
