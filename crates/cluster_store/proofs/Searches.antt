@@ -64,6 +64,16 @@ module _ (p : ℕ → Bool) (xs : List ℕ) where
   pub all_left : (i : ℕ) → length xs ≤ i → list_all p (drop i xs) ≡ true
   all_left i past = ap (list_all p) (drop_of_length-le xs past)
 
+-- where not all behind a place pass, not all pass
+all_fail : (p : ℕ → Bool) (xs : List ℕ) (i : ℕ) → list_all p (drop i xs) ≡ false → list_all p xs ≡ false
+all_fail p xs zero h = h
+all_fail p [] (suc i) h = h
+all_fail p (x ∷ xs) (suc i) h = ap (λ b. p x && b) (all_fail p xs i h) ∙ and_false (p x)
+  where
+    and_false : (b : Bool) → (b && false) ≡ false
+    and_false true = refl
+    and_false false = refl
+
 -- ---- the numbers from 0 on
 
 -- at each place of a row stands its number
@@ -159,3 +169,7 @@ some_within f segments (node ∷ nodes) =
 -- the first of the receivers and segments is the first segment of the first receiver
 pub some_destination : (st : Holding) (f : ℕ → ℕ → Option Event) → first_some (λ (d : ℕ × ℕ). f d.0 d.1) (destinations st) ≡ first_some (λ node. first_some (f node) (segments_of st)) (live_nodes st.coord)
 some_destination st f = some_within f (segments_of st) (live_nodes st.coord)
+
+-- where one number fails, not all pass
+pub row_lacks : (p : ℕ → Bool) (n i : ℕ) → i < n → p i ≡ false → list_all p (range_with_len 0 n) ≡ false
+row_lacks p n i within fails = all_fail p (range_with_len 0 n) i (row_fails p n i within fails)

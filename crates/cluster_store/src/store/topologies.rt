@@ -113,12 +113,23 @@ impl Store {
     fn all_copied(&self) -> bool
         ensures { result ≡ all_copied self.now }
     {
+        // Where a transfer goes on, it is most often the one from which on chunks may be sent.
+        if self.lacks(self.hints.from.segment) {
+            return false;
+        }
         for number in 0..self.config.segments {
             if !self.is_copied(SegmentId::new(number)) {
                 return false;
             }
         }
         true
+    }
+
+    /// Whether the segment is one of the cluster's, of which a receiver hasn't ended its transfer.
+    fn lacks(&self, segment: SegmentId) -> bool
+        ensures { result ≡ true → all_copied self.now ≡ false }
+    {
+        segment.number() < self.config.segments && !self.is_copied(segment)
     }
 
     /// Whether every receiver of the segment has ended its transfer.
