@@ -1,8 +1,8 @@
 #!/usr/bin/env bash
-# Times ./grid live with 1, 2, 4 and 8 workers a node: twelve calls over 20,000 entries, made by four
-# sessions, and calls whose parts are long to make, 98 nested sums over 100,000 keys, made by four
-# sessions over four nodes. Prints for each the time, the processor time and the peak memory, the
-# least of five runs each. The first run, which may build the program, isn't timed.
+# Times ./grid live with 1, 2, 4 and 8 workers a node: twelve calls over 20,000 entries at four nodes,
+# made by four sessions; and four calls whose parts are long to make, 98 nested sums over 100,000 keys
+# at one node, made by one session. Prints for each the time, the processor time and the peak memory,
+# the least of five runs each. The first run, which may build the program, isn't timed.
 set -e
 cd "$(dirname "$0")/.."
 folder=$(mktemp -d)
@@ -17,10 +17,10 @@ settings() {
 # So many puts of the load.
 puts() { seq 0 $(($1 - 1)) | awk '{ print "put k" $1 " " $1 }'; }
 
-# Four sessions, each at a node of its own of so many, that make so many calls of a pipeline.
+# So many sessions, each at a node of its own, that make so many calls of a pipeline.
 sessions() {
-    seq 4 | awk -v nodes="$1" -v calls="$2" -v pipeline="$3" '{
-        print "session " $1 " " ($1 - 1) % nodes
+    seq "$1" | awk -v calls="$2" -v pipeline="$3" '{
+        print "session " $1 " " $1 - 1
         for (k = 1; k <= calls; k++) print "call " ($1 - 1) * calls + k " exact 4 1000 " pipeline
     }'
 }
@@ -28,7 +28,7 @@ sessions() {
 { settings 4 64 2; puts 20000; sessions 4 3 count; } >"$folder/counts"
 sum=value
 for _ in $(seq 98); do sum="($sum + value)"; done
-{ settings 4 64 1; puts 100000; sessions 4 2 "map $sum | sum"; } >"$folder/sums"
+{ settings 1 64 1; puts 100000; sessions 1 4 "map $sum | sum"; } >"$folder/sums"
 
 printf '%-10s %8s %10s %12s %10s\n' script workers 'time, s' 'processor, s' 'peak, MB'
 for script in counts sums; do
